@@ -4,7 +4,7 @@ use Rattle.std.proofs.Math.Seq.{take-append_seam, take-length}
 use Rattle.std.proofs.lemmas.List.{length-take, take-take}
 use Rattle.iox2_commands.specs.declared.command.Command.{Command}
 use Rattle.iox2_commands.specs.declared.reply.Reply.{Reply}
-use Rattle.call_recorder.specs.Recorder.{Begins, Calls, HasRoom, Keeps, with_missed}
+use Rattle.call_recorder.specs.Recorder.{Begins, Calls, HasCommandRoom, Keeps, with_missed}
 
 -- What stays of what stays.
 stays-on : {A : Type 0} (xs ys zs : List A) (m n : ℕ) → m ≤ n → take m ys ≡ xs → take n zs ≡ ys → take m zs ≡ xs
@@ -29,16 +29,16 @@ pub begins-then : (a b c : Calls) (xs us : List (Command ℕ ℕ)) (ys vs : List
 begins-then a b c xs us ys vs first second = record {
   whole = (
     λ m.
-        let h : HasRoom b (length us) = second.whole.0 m in
-        let k : HasRoom a (length xs) = first.whole.0 h.0 in
+        let h : HasCommandRoom b (length us) = second.whole.0 m in
+        let k : HasCommandRoom a (length xs) = first.whole.0 h.0 in
         (k.0, omega (arith, h.1, first.room, ap length (first.kept h.0).0, length-append a.commands xs, length-append xs us)),
     λ r.
-        let k : HasRoom a (length xs) = (r.0, omega (arith, r.1, length-append xs us)) in
+        let k : HasCommandRoom a (length xs) = (r.0, omega (arith, r.1, length-append xs us)) in
         let m : b.missed ≡ 0 = first.whole.1 k in
         second.whole.1 (m, omega (arith, r.1, first.room, ap length (first.kept m).0, length-append a.commands xs, length-append xs us)),
   );
   kept = λ m.
-      let h : HasRoom b (length us) = second.whole.0 m in (
+      let h : HasCommandRoom b (length us) = second.whole.0 m in (
         (second.kept m).0 ∙ ap (λ (l : List (Command ℕ ℕ)). l ++ us) (first.kept h.0).0 ∙ append_assoc a.commands xs us,
         (second.kept m).1 ∙ ap (λ (l : List (Reply ℕ ℕ)). l ++ vs) (first.kept h.0).1 ∙ append_assoc a.replies ys vs,
       );
@@ -58,7 +58,7 @@ by-zero (suc n) none some = some (λ e. omega (arith, e))
 -- What is kept whole is the beginning of a call too.
 pub keeps-begins : (a b : Calls) (xs : List (Command ℕ ℕ)) (ys : List (Reply ℕ ℕ)) → Keeps 0 a b xs ys → Begins a b xs ys
 keeps-begins a b xs ys keeps = record {
-  whole = (λ m. let h : HasRoom a (length xs + 0) = keeps.whole.0 m in (h.0, omega (arith, h.1)), λ r. keeps.whole.1 (r.0, omega (arith, r.1)));
+  whole = (λ m. let h : HasCommandRoom a (length xs + 0) = keeps.whole.0 m in (h.0, omega (arith, h.1)), λ r. keeps.whole.1 (r.0, omega (arith, r.1)));
   kept = keeps.kept;
   commands_stay = by-zero b.missed (λ m. ap (take (length a.commands)) (keeps.kept m).0 ∙ take-append_seam a.commands xs) (λ m. ap (take (length a.commands)) (keeps.missed m).0 ∙ take-length a.commands);
   replies_stay = by-zero b.missed (λ m. ap (take (length a.replies)) (keeps.kept m).1 ∙ take-append_seam a.replies ys) (λ m. ap (take (length a.replies)) (keeps.missed m).1 ∙ take-length a.replies);
@@ -76,7 +76,7 @@ pub call-ends : (a b c : Calls) (xs : List (Command ℕ ℕ)) (ys : List (Reply 
     → Keeps 0 a c xs ys
 call-ends a b c xs ys start begins is_start is_start_too whole cut = by-zero b.missed
     (λ m. record {
-      whole = (λ _. let h : HasRoom a (length xs) = begins.whole.0 m in (h.0, omega (arith, h.1)), λ _. ap (λ (calls : Calls). calls.missed) (whole m) ∙ m);
+      whole = (λ _. let h : HasCommandRoom a (length xs) = begins.whole.0 m in (h.0, omega (arith, h.1)), λ _. ap (λ (calls : Calls). calls.missed) (whole m) ∙ m);
       kept = λ _. rw (whole m) (begins.kept m);
       missed = λ n. absurd (n (ap (λ (calls : Calls). calls.missed) (whole m) ∙ m));
       room = rw (whole m) begins.room;
@@ -96,7 +96,7 @@ call-ends a b c xs ys start begins is_start is_start_too whole cut = by-zero b.m
 
 -- The first commands of a call behind which no other has room: they are cut.
 pub part-is-cut : (a b c : Calls) (xs : List (Command ℕ ℕ)) (ys : List (Reply ℕ ℕ)) (start : ℕ) → Begins a b xs ys → start ≡ length a.commands → start ≡ length a.replies
-    → (HasRoom b 1 → ⊥) → 0 < length xs
+    → (HasCommandRoom b 1 → ⊥) → 0 < length xs
     → c.missed ≡ with_missed b.missed (length b.commands - start) → c ≡ record b { commands = take start b.commands; replies = take start b.replies; missed = c.missed }
     → Keeps 1 a c xs ys
 part-is-cut a b c xs ys start begins is_start is_start_too full some missed cut =
@@ -121,9 +121,9 @@ part-is-cut a b c xs ys start begins is_start is_start_too full some missed cut 
     }
 
 -- The first commands of a call behind which another has room.
-pub part-is-kept : (a b : Calls) (xs : List (Command ℕ ℕ)) (ys : List (Reply ℕ ℕ)) → Begins a b xs ys → HasRoom b 1 → Keeps 1 a b xs ys
+pub part-is-kept : (a b : Calls) (xs : List (Command ℕ ℕ)) (ys : List (Reply ℕ ℕ)) → Begins a b xs ys → HasCommandRoom b 1 → Keeps 1 a b xs ys
 part-is-kept a b xs ys begins room =
-    let r : HasRoom a (length xs) = begins.whole.0 room.0 in
+    let r : HasCommandRoom a (length xs) = begins.whole.0 room.0 in
     record {
       whole = (λ _. (r.0, omega (arith, room.1, begins.room, ap length (begins.kept room.0).0, length-append a.commands xs)), λ _. room.0);
       kept = begins.kept;

@@ -12,8 +12,8 @@ pub record Calls : Type 0 where
   pub bytes : ℕ
 
 -- No command was missed, and there is room for that many more.
-abbrev pub HasRoom : Calls → ℕ → Type 0
-HasRoom calls count = (calls.missed ≡ 0) × (length calls.commands + count ≤ calls.room)
+abbrev pub HasCommandRoom : Calls → ℕ → Type 0
+HasCommandRoom calls count = (calls.missed ≡ 0) × (length calls.commands + count ≤ calls.room)
 
 -- How many commands are missed with that many more, as far as 64 bits count.
 abbrev pub with_missed : ℕ → ℕ → ℕ
@@ -21,7 +21,7 @@ with_missed missed more = min (missed + more) 18446744073709551615
 
 -- All of these commands are kept with their replies behind the others, exactly where none was missed before and there is room for them and for so many more; else none of them is kept, what is kept stays, and they are counted as missed.
 pub record Keeps (more : ℕ) (old new : Calls) (commands : List (Command ℕ ℕ)) (replies : List (Reply ℕ ℕ)) : Type 0 where
-  pub whole : (new.missed ≡ 0) ↔ HasRoom old (length commands + more)
+  pub whole : (new.missed ≡ 0) ↔ HasCommandRoom old (length commands + more)
   pub kept : new.missed ≡ 0 → (new.commands ≡ old.commands ++ commands) × (new.replies ≡ old.replies ++ replies)
   pub missed : new.missed ≢ 0 → (new.commands ≡ old.commands) × (new.replies ≡ old.replies) × (new.missed ≡ with_missed old.missed (length commands))
   pub room : new.room ≡ old.room
@@ -29,7 +29,7 @@ pub record Keeps (more : ℕ) (old new : Calls) (commands : List (Command ℕ �
 
 -- The same of the first commands of a call: where there is no room for them all, some may be kept, and the others are counted as missed.
 pub record Begins (old new : Calls) (commands : List (Command ℕ ℕ)) (replies : List (Reply ℕ ℕ)) : Type 0 where
-  pub whole : (new.missed ≡ 0) ↔ HasRoom old (length commands)
+  pub whole : (new.missed ≡ 0) ↔ HasCommandRoom old (length commands)
   pub kept : new.missed ≡ 0 → (new.commands ≡ old.commands ++ commands) × (new.replies ≡ old.replies ++ replies)
   pub commands_stay : take (length old.commands) new.commands ≡ old.commands
   pub replies_stay : take (length old.replies) new.replies ≡ old.replies

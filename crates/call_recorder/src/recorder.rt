@@ -1,5 +1,5 @@
 ghost use Rattle.std.specs.Prelude.{[], ◌∷◌, ◌≡◌, ◌≢◌, ◌↔◌, IfOk, IsTrue, length};
-ghost use Rattle.call_recorder.specs.Recorder.{HasRoom, Keeps, with_missed};
+ghost use Rattle.call_recorder.specs.Recorder.{HasCommandRoom, Keeps, with_missed};
 
 mod messages;
 
@@ -125,7 +125,7 @@ impl Recorder {
 
     // Whether the next command is kept.
     fn has_room(&self) -> bool
-        ensures { IsTrue result ↔ HasRoom self.now 1 }
+        ensures { IsTrue result ↔ HasCommandRoom self.now 1 }
     {
         self.missed == 0 && self.commands.len() < self.commands.capacity()
     }

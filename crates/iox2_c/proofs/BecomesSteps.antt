@@ -9,18 +9,18 @@ use Rattle.iox2_machine.specs.declared.errors.LoanError.TheVariants.{OutOfMemory
 use Rattle.iox2_machine.specs.declared.errors.ReceiveError.{ReceiveError}
 use Rattle.iox2_machine.specs.declared.errors.ReceiveError.TheVariants.{ExceedsMaxBorrows, ConnectionFailure as Not_connected}
 use Rattle.iox2_machine.specs.machine.Receives.{ReceiveResult}
-use Rattle.iox2_c.specs.Boxed.{Becomes, Turns}
+use Rattle.iox2_c.specs.Boxed.{Becomes, HoldsFromOldToNew}
 use Rattle.iox2_c.specs.Codes.{code_of, failure_code, loan_code, receive_code}
 use Rattle.iox2_c.specs.Serving.{KeptBytes, Serving}
-use Rattle.iox2_c.specs.Steps.{Receives}
+use Rattle.iox2_c.specs.Steps.{SubscriberReceives}
 
 -- a domain that is changed in its box
 pub becomes : (P : KeptBytes → KeptBytes → Type 0) (old new : Option Serving) (a b : Serving) → old ≡ Some a → new ≡ Some b → P a.domain b.domain → Becomes P old new
 becomes P old new a b was is step = subst (λ (o : Option Serving). Becomes P o new) (sym was) (b, is, step)
 
 -- the same with its lengths
-pub turns : (P : Serving → Serving → Type 0) (old new : Option Serving) (a b : Serving) → old ≡ Some a → new ≡ Some b → P a b → Turns P old new
-turns P old new a b was is step = subst (λ (o : Option Serving). Turns P o new) (sym was) (b, is, step)
+pub turns : (P : Serving → Serving → Type 0) (old new : Option Serving) (a b : Serving) → old ≡ Some a → new ≡ Some b → P a b → HoldsFromOldToNew P old new
+turns P old new a b was is step = subst (λ (o : Option Serving). HoldsFromOldToNew P o new) (sym was) (b, is, step)
 
 -- a step in the domain that was opened, by a port's id, is one in the domain, by its numbers
 pub moved : (Step : KeptBytes → ℕ → Type 0) (inside old : KeptBytes) (q p : ℕ) → inside ≡ old → q ≡ p → Step inside q → Step old p
@@ -32,8 +32,8 @@ pub told-update : (Updates : KeptBytes → KeptBytes → ℕ → Result (Unit {0
 told-update Updates updated code inside old new q p same id is step = (updated, is, moved (λ k r. Updates k new r updated) inside old q p same id step)
 
 -- and so with a receive, whose result is the same by its numbers
-pub receives-moved : (inside old new : KeptBytes) (q p : ℕ) (was is : ReceiveResult) → inside ≡ old → q ≡ p → was ≡ is → Receives inside new q was → Receives old new p is
-receives-moved inside old new q p was is same id result step = moved (λ k r. Receives k new r is) inside old q p same id (subst (Receives inside new q) result step)
+pub receives-moved : (inside old new : KeptBytes) (q p : ℕ) (was is : ReceiveResult) → inside ≡ old → q ≡ p → was ≡ is → SubscriberReceives inside new q was → SubscriberReceives old new p is
+receives-moved inside old new q p was is same id result step = moved (λ k r. SubscriberReceives k new r is) inside old q p same id (subst (SubscriberReceives inside new q) result step)
 
 -- codes of errors are high
 pub loan-code-high : (error : LoanError) → 10 ≤ loan_code error

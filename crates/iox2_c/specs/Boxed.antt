@@ -19,9 +19,9 @@ Becomes P None new = new ≡ None
 Becomes P (Some old) new = (it : Serving) × (new ≡ Some it) × P old.domain it.domain
 
 -- This is so of the domain as it was and as it is, with its lengths. Where there was none, there is none.
-abbrev pub Turns : (Serving → Serving → Type 0) → (old new : Option Serving) → Type 0
-Turns P None new = new ≡ None
-Turns P (Some old) new = (it : Serving) × (new ≡ Some it) × P old it
+abbrev pub HoldsFromOldToNew : (Serving → Serving → Type 0) → (old new : Option Serving) → Type 0
+HoldsFromOldToNew P None new = new ≡ None
+HoldsFromOldToNew P (Some old) new = (it : Serving) × (new ≡ Some it) × P old it
 
 -- If there was a domain, there still is one, and all that was live in it stays, except the item. If there was none,
 -- there is none.

@@ -37,7 +37,7 @@ loan_made (Err error) = Err error
 
 module _ (domain : KeptBytes) (key : Key) where
   -- The publisher is there, and no send of it waits.
-  pub record IsReady : Type 0 where
+  pub record IsReadyKey : Type 0 where
     pub there : IsPublisherKey domain key
     pub unblocked : IsUnblocked domain key
 
@@ -52,8 +52,8 @@ module _ (domain : KeptBytes) (key : Key) where
     pub written : HasMark domain key.message true
 
   -- Why a call of a loan is refused with this code.
-  abbrev pub RefusesLoan : (code : ℕ) → Type 0
-  RefusesLoan code = (code ≡ 2) × (IsOut → ⊥)
+  abbrev pub IsRefusedLoan : (code : ℕ) → Type 0
+  IsRefusedLoan code = (code ≡ 2) × (IsOut → ⊥)
 
   -- Why a send of a loan is refused with this code.
   abbrev pub RefusesSend : (code : ℕ) → Type 0

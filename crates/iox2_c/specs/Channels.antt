@@ -68,8 +68,8 @@ module _ (domain : KeptBytes) where
 
 module _ (old new : KeptBytes) where
   -- From each state that the domain showed it came to this one.
-  abbrev pub ComesTo : (BytesState → BytesState) → Type 0
-  ComesTo change = (m : Messages ℕ (Unit {0})) (s : BytesState) → Shows old m s → Shows new m (change s)
+  abbrev pub ChangesTo : (BytesState → BytesState) → Type 0
+  ChangesTo change = (m : Messages ℕ (Unit {0})) (s : BytesState) → Shows old m s → Shows new m (change s)
 
   -- The subscriber with this id brought the channel into the state wherever it was closed; the answer says whether it was at each
   -- connection.
@@ -79,11 +79,11 @@ module _ (old new : KeptBytes) where
 
   -- The subscriber with this id closed the channel wherever it was in the state `expected`.
   abbrev pub ClosesReceived : (subscriber channel expected : ℕ) → Type 0
-  ClosesReceived subscriber channel expected = ComesTo (λ s. received_closed s subscriber channel expected)
+  ClosesReceived subscriber channel expected = ChangesTo (λ s. received_closed s subscriber channel expected)
 
   -- The subscriber with this id hinted that it disconnects wherever the channel was in the state `expected`.
   abbrev pub HintsReceived : (subscriber channel expected : ℕ) → Type 0
-  HintsReceived subscriber channel expected = ComesTo (λ s. received_hinted s subscriber channel expected)
+  HintsReceived subscriber channel expected = ChangesTo (λ s. received_hinted s subscriber channel expected)
 
   -- The subscriber with this id changed the channel so wherever it was in the state `expected`.
   abbrev pub ChangesReceived : ReceivedChange → (subscriber channel expected : ℕ) → Type 0
@@ -92,4 +92,4 @@ module _ (old new : KeptBytes) where
 
   -- The publisher with this id closed the channel at that connection, if it was in the state `expected`.
   abbrev pub ClosesSent : (publisher channel place expected : ℕ) → Type 0
-  ClosesSent publisher channel place expected = ComesTo (λ s. sent_closed s publisher channel place expected)
+  ClosesSent publisher channel place expected = ChangesTo (λ s. sent_closed s publisher channel place expected)

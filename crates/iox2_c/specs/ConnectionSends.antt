@@ -9,7 +9,7 @@ use Rattle.iox2_machine.specs.machine.Records.{Loan}
 use Rattle.iox2_machine.specs.machine.State.{Messages}
 use Rattle.iox2_domain.specs.Shows.{Shows}
 use Rattle.iox2_pubsub.specs.Live.{A_sent_loan, IsBlockedKey, IsLoanKey, IsUnblocked}
-use Rattle.iox2_pubsub.specs.SendCalls.{SendsToConnection, messages_after}
+use Rattle.iox2_pubsub.specs.SendCalls.{SendsToConnection, messages_after_send}
 use Rattle.iox2_pubsub.specs.declared.send_outcome.SendOutcome.{SendOutcome}
 use Rattle.iox2_c.specs.Calls.{IsOut}
 use Rattle.iox2_c.specs.Codes.{receivers_of, sent_code}
@@ -28,16 +28,16 @@ RefusesSendTo domain key channel code =
     ((code ≡ 2) × (IsOut domain key → ⊥)) ⊎ ((code ≡ 7) × IsOut domain key × (IsUnblocked domain key → ⊥)) ⊎ ((code ≡ 70) × IsOut domain key × (channel_count domain.config ≤ channel))
 
 -- The loan with this number was sent into that channel of the connection at that place, with this outcome or error.
-abbrev pub SendsLoanTo : (old new : KeptBytes) → (number channel connection : ℕ) → Result SendOutcome SendError → Type 0
-SendsLoanTo old new number channel connection sent =
+abbrev pub SendsNumberedTo : (old new : KeptBytes) → (number channel connection : ℕ) → Result SendOutcome SendError → Type 0
+SendsNumberedTo old new number channel connection sent =
     (m : Messages ℕ (Unit {0})) (s : BytesState) (l : Loan ℕ (Unit {0})) → Shows old m s → s.loans number ≡ Some l
-    → (s' : BytesState) × Shows new (messages_after m number l sent) s' × SendsToConnection (publishers_answer old) s number l channel connection sent s'
+    → (s' : BytesState) × Shows new (messages_after_send m number l sent) s' × SendsToConnection (publishers_answer old) s number l channel connection sent s'
 
 -- The loan with these numbers was to be sent there: the code, how many took it, and the numbers of a send that waits.
 pub record SendToReturns (numbers : LoanNumbers) (channel connection : ℕ) (old new : Serving) (counted count : ℕ) (before after : LoanNumbers) (code : ℕ) : Type 0 where
   pub never : code ≡ 1 → ⊥
   pub sent : (IsRefusal code → ⊥)
-      → (outcome : Result SendOutcome SendError) × (code ≡ sent_code outcome) × (count ≡ receivers_of counted outcome) × SendsLoanTo old.domain new.domain (wide numbers.number) channel connection outcome
+      → (outcome : Result SendOutcome SendError) × (code ≡ sent_code outcome) × (count ≡ receivers_of counted outcome) × SendsNumberedTo old.domain new.domain (wide numbers.number) channel connection outcome
   pub why : IsRefusal code → RefusesSendTo old.domain (named_loan numbers) channel code × (new ≡ old)
   pub waits : code ≡ 6 → IsBlockedKey new.domain (named_loan after) × (named_loan after ≡ named_loan numbers)
   pub spent : (IsRefusal code → ⊥) → IsLoanKey new.domain (named_loan numbers) → ⊥

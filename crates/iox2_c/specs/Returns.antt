@@ -14,7 +14,7 @@ use Rattle.iox2_c.specs.Calls.{IsOut, RefusesPublisher, RefusesSend}
 use Rattle.iox2_c.specs.Codes.{loan_code, receive_code, receivers_of, sent_code}
 use Rattle.iox2_c.specs.Numbers.{named_loan, named_publisher, named_sample, named_subscriber, wide}
 use Rattle.iox2_c.specs.Serving.{KeptBytes, Serving, ServesBut}
-use Rattle.iox2_c.specs.Steps.{Receives, Releases, SendsLoan}
+use Rattle.iox2_c.specs.Steps.{SubscriberReceives, SubscriberReleases, SendsNumbered}
 use Rattle.iox2_c.specs.declared.numbers.LoanNumbers.{LoanNumbers}
 use Rattle.iox2_c.specs.declared.numbers.PublisherNumbers.{PublisherNumbers}
 use Rattle.iox2_c.specs.declared.numbers.SampleNumbers.{SampleNumbers}
@@ -40,7 +40,7 @@ pub record LoanReturns (Lends : Lending) (numbers : PublisherNumbers) (len : ℕ
 pub record SendReturns (numbers : LoanNumbers) (old new : Serving) (counted count : ℕ) (before after : LoanNumbers) (code : ℕ) : Type 0 where
   pub never : code ≡ 1 → ⊥
   pub sent : code ≢ 2 → code ≢ 7
-      → (outcome : Result SendOutcome SendError) × (code ≡ sent_code outcome) × (count ≡ receivers_of counted outcome) × SendsLoan old.domain new.domain (wide numbers.number) outcome
+      → (outcome : Result SendOutcome SendError) × (code ≡ sent_code outcome) × (count ≡ receivers_of counted outcome) × SendsNumbered old.domain new.domain (wide numbers.number) outcome
   pub why : (code ≡ 2) ⊎ (code ≡ 7) → RefusesSend old.domain (named_loan numbers) code × (new ≡ old)
   pub waits : code ≡ 6 → IsBlockedKey new.domain (named_loan after) × (named_loan after ≡ named_loan numbers)
   pub spent : code ≢ 2 → code ≢ 7 → IsLoanKey new.domain (named_loan numbers) → ⊥
@@ -51,9 +51,9 @@ pub record SendReturns (numbers : LoanNumbers) (old new : Serving) (counted coun
 -- The subscriber with these numbers received: the code, the sample's numbers, and how many bytes it has.
 pub record ReceiveReturns (numbers : SubscriberNumbers) (old new : Serving) (before after : SampleNumbers) (len_before len : ℕ) (code : ℕ) : Type 0 where
   pub never : code ≡ 1 → ⊥
-  pub received : code ≡ 0 → Receives old.domain new.domain (wide numbers.id) (Got_sample (wide after.origin) (wide after.number))
-  pub nothing : code ≡ 3 → Receives old.domain new.domain (wide numbers.id) No_sample
-  pub errors : 3 < code → (error : ReceiveError) × (code ≡ receive_code error) × Receives old.domain new.domain (wide numbers.id) (Receive_error error)
+  pub received : code ≡ 0 → SubscriberReceives old.domain new.domain (wide numbers.id) (Got_sample (wide after.origin) (wide after.number))
+  pub nothing : code ≡ 3 → SubscriberReceives old.domain new.domain (wide numbers.id) No_sample
+  pub errors : 3 < code → (error : ReceiveError) × (code ≡ receive_code error) × SubscriberReceives old.domain new.domain (wide numbers.id) (Receive_error error)
   pub not_live : code ≡ 2 → (IsSubscriberKey old.domain (named_subscriber numbers) → ⊥) × (new ≡ old)
   pub live : code ≡ 0 → IsSampleKey new.domain (named_sample after)
   pub fresh : code ≡ 0 → IsNewIn old.domain (A_sample (wide after.subscriber) (wide after.number))
@@ -66,7 +66,7 @@ pub record ReceiveReturns (numbers : SubscriberNumbers) (old new : Serving) (bef
 pub record ReleaseReturns (numbers : SampleNumbers) (old new : Serving) (code : ℕ) : Type 0 where
   pub zero_or_two : (code ≡ 0) ⊎ ((code ≡ 2) × (IsSampleKey old.domain (named_sample numbers) → ⊥))
   pub live : code ≡ 0 → IsSampleKey old.domain (named_sample numbers)
-  pub releases : code ≡ 0 → Releases old.domain new.domain (wide numbers.subscriber) (wide numbers.number)
+  pub releases : code ≡ 0 → SubscriberReleases old.domain new.domain (wide numbers.subscriber) (wide numbers.number)
   pub spent : IsSampleKey new.domain (named_sample numbers) → ⊥
   pub refused : 0 < code → new ≡ old
   pub stays : ServesBut (A_sample (wide numbers.subscriber) (wide numbers.number)) old new

@@ -114,8 +114,8 @@ unasked_settings config it = record (default_publisher_settings config) {
 }
 
 -- The settings of a publisher with these options.
-abbrev pub publisher_settings : ServiceConfig → PublisherOptions → PublisherSettings
-publisher_settings config it = record (unasked_settings config it) { asked_slots = slots_numbered it.preallocated_samples }
+abbrev pub settings_of_options : ServiceConfig → PublisherOptions → PublisherSettings
+settings_of_options config it = record (unasked_settings config it) { asked_slots = slots_numbered it.preallocated_samples }
 
 -- The settings of a subscriber with these options.
 abbrev pub subscriber_settings : SubscriberOptions → SubscriberSettings

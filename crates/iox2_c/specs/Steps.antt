@@ -28,8 +28,8 @@ use Rattle.iox2_domain.specs.Boxes.{answers_of}
 use Rattle.iox2_domain.specs.Lending.{LoanCall}
 use Rattle.iox2_domain.specs.Shows.{Shows}
 use Rattle.iox2_pubsub.specs.Live.{IsSampleKey}
-use Rattle.iox2_pubsub.specs.QuestionCalls.{Answers}
-use Rattle.iox2_pubsub.specs.SendCalls.{Sends, messages_after, result_of_send}
+use Rattle.iox2_pubsub.specs.QuestionCalls.{IsAnswered}
+use Rattle.iox2_pubsub.specs.SendCalls.{Sends, messages_after_send, result_of_send}
 use Rattle.iox2_pubsub.specs.Slices.{SampleHasValues}
 use Rattle.iox2_pubsub.specs.UpdateCalls.{returned_failure}
 use Rattle.iox2_pubsub.specs.WrittenLoans.{DefaultSliceCall}
@@ -91,32 +91,32 @@ module _ (old new : KeptBytes) where
       (m : Messages ℕ (Unit {0})) (s : BytesState) (l : Loan ℕ (Unit {0})) → Shows old m s → s.loans number ≡ Some l → Shows new m (loan_discarded s number l)
 
   -- The loan with this number was sent, with this outcome or error.
-  abbrev pub SendsLoan : (number : ℕ) → Result SendOutcome SendError → Type 0
-  SendsLoan number sent =
+  abbrev pub SendsNumbered : (number : ℕ) → Result SendOutcome SendError → Type 0
+  SendsNumbered number sent =
       (m : Messages ℕ (Unit {0})) (s : BytesState) (l : Loan ℕ (Unit {0})) → Shows old m s → s.loans number ≡ Some l
-      → (s' : BytesState) × Shows new (messages_after m number l sent) s' × Sends (publishers_answer old) s number l sent s'
+      → (s' : BytesState) × Shows new (messages_after_send m number l sent) s' × Sends (publishers_answer old) s number l sent s'
 
   -- The blocked send of the publisher with this id was tried again that many nanoseconds after it was blocked, with
   -- this outcome or error.
-  pub record Retries (publisher nanoseconds : ℕ) (sent : Result SendOutcome SendError) : Type 0 where
+  pub record BlockedSendRetries (publisher nanoseconds : ℕ) (sent : Result SendOutcome SendError) : Type 0 where
     pub elapsed : Duration
     pub time : as_nanos elapsed ≡ nanoseconds
     pub step : (m : Messages ℕ (Unit {0})) (s : BytesState) (x : Publisher) (b : BlockedSend) → Shows old m s → s.publishers publisher ≡ Some x → x.blocked ≡ Some b
         → (s' : BytesState) × Shows new m s' × Retry (publishers_answer old) s publisher b elapsed s' (result_of_send sent)
 
   -- The subscriber for which it waited was given up.
-  abbrev pub GivesUp : (publisher : ℕ) → Result SendOutcome SendError → Type 0
-  GivesUp publisher sent =
+  abbrev pub BlockedSendGivesUp : (publisher : ℕ) → Result SendOutcome SendError → Type 0
+  BlockedSendGivesUp publisher sent =
       (m : Messages ℕ (Unit {0})) (s : BytesState) (x : Publisher) (b : BlockedSend) → Shows old m s → s.publishers publisher ≡ Some x → x.blocked ≡ Some b
       → (s' : BytesState) × Shows new m s' × GiveUp (publishers_answer old) s publisher b s' (result_of_send sent)
 
   -- The subscriber with this id received, with this result.
-  abbrev pub Receives : (subscriber : ℕ) → ReceiveResult → Type 0
-  Receives subscriber result = StepsTo (λ s s'. Receive (subscribers_answer old) s subscriber s' result)
+  abbrev pub SubscriberReceives : (subscriber : ℕ) → ReceiveResult → Type 0
+  SubscriberReceives subscriber result = StepsTo (λ s s'. Receive (subscribers_answer old) s subscriber s' result)
 
   -- The message with this number was given back by the subscriber with this id, whomever it was borrowed from.
-  abbrev pub Releases : (subscriber number : ℕ) → Type 0
-  Releases subscriber number =
+  abbrev pub SubscriberReleases : (subscriber number : ℕ) → Type 0
+  SubscriberReleases subscriber number =
       (m : Messages ℕ (Unit {0})) (s : BytesState) → Shows old m s → (publisher : ℕ) → IsTrue (is_borrowed number (s.mailboxes publisher subscriber))
       → (s' : BytesState) × Shows new m s' × (s' ≡ released s publisher subscriber number)
 
@@ -132,15 +132,15 @@ module _ (old new : KeptBytes) where
 
   -- The subscriber with this id was asked whether a message waits, with this answer or the failure of its update.
   abbrev pub Asks : (subscriber : ℕ) → Result Bool ConnectionFailure → Type 0
-  Asks subscriber answer = StepsTo (λ s s'. Answers (subscribers_answer old) s subscriber answer s')
+  Asks subscriber answer = StepsTo (λ s s'. IsAnswered (subscribers_answer old) s subscriber answer s')
 
   -- The publisher with this id was updated, with this failure if any.
-  abbrev pub UpdatesPublisher : (publisher : ℕ) → Result (Unit {0}) ConnectionFailure → Type 0
-  UpdatesPublisher publisher updated = StepsTo (λ s s'. UpdatePublisher (publishers_answer old) s publisher s' (returned_failure updated))
+  abbrev pub PublisherUpdates : (publisher : ℕ) → Result (Unit {0}) ConnectionFailure → Type 0
+  PublisherUpdates publisher updated = StepsTo (λ s s'. UpdatePublisher (publishers_answer old) s publisher s' (returned_failure updated))
 
   -- The subscriber with this id was.
-  abbrev pub UpdatesSubscriber : (subscriber : ℕ) → Result (Unit {0}) ConnectionFailure → Type 0
-  UpdatesSubscriber subscriber updated = StepsTo (λ s s'. UpdateSubscriber (subscribers_answer old) s subscriber s' (returned_failure updated))
+  abbrev pub SubscriberUpdates : (subscriber : ℕ) → Result (Unit {0}) ConnectionFailure → Type 0
+  SubscriberUpdates subscriber updated = StepsTo (λ s s'. UpdateSubscriber (subscribers_answer old) s subscriber s' (returned_failure updated))
 
 module _ (old new : KeptBytes) where
   -- The publisher with this id lent a loan as long as these bytes, which were written there, and the loan was sent, with this outcome or
@@ -150,11 +150,11 @@ module _ (old new : KeptBytes) where
     pub written : KeptBytes
     pub lends : LendsUnwritten old lent publisher (length bytes) (Ok tt)
     pub writes : Writes lent written old.next_message bytes
-    pub sends : SendsLoan written new old.next_message sent
+    pub sends : SendsNumbered written new old.next_message sent
 
   -- A copy of these bytes was sent by the publisher with this id, or it lent nothing, for the reason that the error names.
-  abbrev pub SendsCopy : (publisher : ℕ) (bytes : List ℕ) → Result SendOutcome SendError → Type 0
-  SendsCopy publisher bytes sent =
+  abbrev pub SendsBytes : (publisher : ℕ) (bytes : List ℕ) → Result SendOutcome SendError → Type 0
+  SendsBytes publisher bytes sent =
       SendsWritten publisher bytes sent
       ⊎ ((reason : LoanError) × (sent ≡ Err (Not_lent reason)) × LendsUnwritten old new publisher (length bytes) (Err reason))
 
@@ -162,7 +162,7 @@ module _ (old new : KeptBytes) where
   -- `received`.
   pub record ReceivesCopy (key : Key) (origin : ℕ) (bytes : List ℕ) : Type 0 where
     pub received : KeptBytes
-    pub receives : Receives old received key.port (Got_sample origin key.message)
+    pub receives : SubscriberReceives old received key.port (Got_sample origin key.message)
     pub live : IsSampleKey received key
     pub reads : SampleHasValues received key bytes
-    pub releases : Releases received new key.port key.message
+    pub releases : SubscriberReleases received new key.port key.message

@@ -20,13 +20,13 @@ first_unborrowed connections (key ∷ keys) =
     if has_borrowed (get connections key) then first_unborrowed connections keys else Some key
 
 -- The connection at this key is evicted; where there is none, the retirement is refused.
-abbrev pub evict_or_refuse : Option ℕ → Retirement
-evict_or_refuse None = Refuse
-evict_or_refuse (Some key) = Evict key
+abbrev pub evict_link_or_refuse : Option ℕ → Retirement
+evict_link_or_refuse None = Refuse
+evict_link_or_refuse (Some key) = Evict key
 
 -- What becomes of the connection at the key, if at most that many may be kept and these are kept already.
 abbrev pub chosen : Slab Link → (limit : ℕ) → (expired : List ℕ) → (key : ℕ) → Retirement
 chosen connections limit expired key =
     if nat_lt (length expired) limit then KeepExpired
-    else if has_borrowed (get connections key) then evict_or_refuse
+    else if has_borrowed (get connections key) then evict_link_or_refuse
     (first_unborrowed connections expired) else DiscardData

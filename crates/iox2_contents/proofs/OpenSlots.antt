@@ -2,8 +2,8 @@
 use Rattle.std.proofs.Common.{◌≡◌, ◌<◌, ◌≤◌, ◌∙◌, ◌==◌, ◌&&◌, ℕ, Bool, true, false, cond, [], length, refl, ap, sym, subst, arith}
 use Rattle.std.proofs.lemmas.Bool.Decides.{nat_tests}
 use Rattle.std.specs.Prelude.{nat_lt, nat_le}
-use Rattle.iox2_contents.specs.SlotContents.{ContentState, is_open}
-use Rattle.iox2_contents.specs.SlotStates.{SlotState, content_of, has_list, waits}
+use Rattle.iox2_contents.specs.SlotContents.{ContentState, has_cells_to_hand_out}
+use Rattle.iox2_contents.specs.SlotStates.{SlotState, content_of, slot_has_list, slot_waits}
 use Rattle.iox2_contents.specs.SlotRooms.{ListsCells, ShowsAtMost, one_if_long}
 
 pub and-false : (b : Bool) → (b && false) ≡ false
@@ -53,13 +53,13 @@ module _ {T U : Type 0} where
 
   -- one where the slot has cells that can be handed out as a list
   abbrev pub one_if_open : ContentState T U → ℕ
-  one_if_open content = cond (is_open content) 1 0
+  one_if_open content = cond (has_cells_to_hand_out content) 1 0
 
   pub not-open : (content : ContentState T U) → content.cells ≡ [] → one_if_open content ≡ 0
   not-open content none = ap (λ cells. cond {A = ℕ} (nat_lt 0 content.lists && nat_lt 0 (length cells)) 1 0) none ∙ ap (λ b. cond {A = ℕ} b 1 0) (and-false (nat_lt 0 content.lists))
 
   pub open-once : (content : ContentState T U) → one_if_open content ≤ 1
-  open-once content = by (is_open content) where
+  open-once content = by (has_cells_to_hand_out content) where
     by : (b : Bool) → cond {A = ℕ} b 1 0 ≤ 1
     by true = omega arith
     by false = omega arith
@@ -73,14 +73,14 @@ module _ {T U : Type 0} where
   is-open content lists cells = ap (λ b. cond {A = ℕ} b 1 0) (lt-both content.lists (length content.cells) lists cells)
 
   -- what a list and the want of one say of a slot
-  pub has-some : (s : SlotState T U) → has_list s ≡ true → (0 < s.content.lists) × (0 < s.cell_room)
+  pub has-some : (s : SlotState T U) → slot_has_list s ≡ true → (0 < s.content.lists) × (0 < s.cell_room)
   has-some s has = both-lt s.content.lists s.cell_room has
 
-  pub waits-for : (s : SlotState T U) → waits s ≡ true → (0 < s.content.lists) × (s.cell_room ≡ 0) × (0 < length s.content.cells)
+  pub waits-for : (s : SlotState T U) → slot_waits s ≡ true → (0 < s.content.lists) × (s.cell_room ≡ 0) × (0 < length s.content.cells)
   waits-for s is = zero-lt s.content.lists s.cell_room (length s.content.cells) is
 
   -- a list that is long enough is one
-  pub long-has : (most : ℕ) (s : SlotState T U) → ShowsAtMost most s → one_if_long most s ≤ cond {A = ℕ} (has_list s) 1 0
+  pub long-has : (most : ℕ) (s : SlotState T U) → ShowsAtMost most s → one_if_long most s ≤ cond {A = ℕ} (slot_has_list s) 1 0
   long-has most s shows = one-less s.content.lists s.cell_room most (λ some. (shows.0 some).1)
 
   -- it is one at most, and none where it is shorter
@@ -90,15 +90,15 @@ module _ {T U : Type 0} where
   pub short-none : (most : ℕ) (s : SlotState T U) → s.cell_room < most → one_if_long most s ≡ 0
   short-none most s short = too-short s.content.lists s.cell_room most short
 
-  pub long-none : (most : ℕ) (s : SlotState T U) → ShowsAtMost most s → has_list s ≡ false → one_if_long most s ≡ 0
+  pub long-none : (most : ℕ) (s : SlotState T U) → ShowsAtMost most s → slot_has_list s ≡ false → one_if_long most s ≡ 0
   long-none most s shows none =
       let no : one_if_long most s ≤ 0 = subst (λ b. one_if_long most s ≤ cond {A = ℕ} b 1 0) none (long-has most s shows) in
       omega (arith, no)
 
   -- a slot with a list that is long enough has cells
   pub long-open : (most n : ℕ) (s : SlotState T U) → ShowsAtMost most s → ListsCells s → (0 < s.content.lists → 0 < n) → one_if_long most s ≤ one_if_open (content_of n s)
-  long-open most n s shows lists more = by (has_list s) refl where
-    by : (b : Bool) → has_list s ≡ b → one_if_long most s ≤ one_if_open (content_of n s)
+  long-open most n s shows lists more = by (slot_has_list s) refl where
+    by : (b : Bool) → slot_has_list s ≡ b → one_if_long most s ≤ one_if_open (content_of n s)
     by true e =
         let some = (has-some s e).0 in
         let is = is-open (content_of n s) (subst (λ m. 0 < m) (sym (shown-lists n s some)) (more some)) (lists e) in

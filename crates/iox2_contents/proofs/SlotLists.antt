@@ -6,7 +6,7 @@ use Rattle.std.proofs.lemmas.List.Elements.{All-set}
 use Rattle.std.specs.Prelude.{slice_get, nat_lt, sum_by, IsSomeAnd}
 use Rattle.std.specs.List.{All}
 use Rattle.iox2_contents.specs.SlotContents.{ClearsSlot, ContentState, WritesValues, ended_content, unwritten_content, written_content, with_changed, open_count}
-use Rattle.iox2_contents.specs.SlotStates.{SlotState, content_of, contents_of, has_list, waits, with_content, with_lists}
+use Rattle.iox2_contents.specs.SlotStates.{SlotState, content_of, contents_of, slot_has_list, slot_waits, with_content, with_lists}
 use Rattle.iox2_contents.specs.SlotRooms.{HasLists, HasListsBut, ListsCells, ShowsAtMost, one_if_long, long_count}
 use Rattle.iox2_contents.proofs.SlotSums.{within, reads, there, mapped, sum-changed, sum-less, sum-map, set-here, set-away, set-same}
 use Rattle.iox2_contents.proofs.OpenSlots.{and-false, no-wait, one-if, one_if_open, not-open, never-open, open-once, is-open, has-some, shown-lists, shown-none, waits-for, long-none, long-once, long-open, short-none}
@@ -88,7 +88,7 @@ module _ {T U : Type 0} where
           (let same : one_if_long most t ≡ one_if_long most s = rw (lists, cell_room) refl in omega (arith, same))
           (by s.content.lists refl)
         where
-          free : has_list s ≡ true → ⊥
+          free : slot_has_list s ≡ true → ⊥
           free listed =
               let some = of-all ListsCells has.listed listed in
               let gone : length s.content.cells ≡ 0 = ap length (none (shown has (has-some s listed).0)) in
@@ -101,9 +101,9 @@ module _ {T U : Type 0} where
               omega (arith, few (shown has some), shown-lists number s some, opened-changed, open-once (content_of number t))
 
     -- a slot without cells has no list
-    pub none-listed : HasLists most spare number xs → (0 < (content_of number s).lists → s.content.cells ≡ []) → has_list s ≡ false
-    none-listed has none = by (has_list s) refl where
-      by : (b : Bool) → has_list s ≡ b → has_list s ≡ false
+    pub none-listed : HasLists most spare number xs → (0 < (content_of number s).lists → s.content.cells ≡ []) → slot_has_list s ≡ false
+    none-listed has none = by (slot_has_list s) refl where
+      by : (b : Bool) → slot_has_list s ≡ b → slot_has_list s ≡ false
       by false e = e
       by true e =
           let some = of-all ListsCells has.listed e in
@@ -111,7 +111,7 @@ module _ {T U : Type 0} where
           absurd (omega (arith, some, gone))
 
     -- where the slot without cells has no list either, all is well
-    pub recycled : HasListsBut i most spare number xs → has_list s ≡ false → HasLists most spare number xs
+    pub recycled : HasListsBut i most spare number xs → slot_has_list s ≡ false → HasLists most spare number xs
     recycled but none = record {
       shown = but.shown;
       listed = λ k d low. by k d low (cases_eq k i);
@@ -121,7 +121,7 @@ module _ {T U : Type 0} where
     } where
       by : (k : ℕ) (d : SlotState T U) → k < length xs → (k ≡ i) ⊎ (k ≢ i) → ListsCells (get_or xs k d)
       by k d low (inl same) = λ listed.
-          absurd (let is : get_or xs k d ≡ s = ap (λ j. get_or xs j d) same ∙ reads xs i s d at in let clash : true ≡ false = sym listed ∙ ap has_list is ∙ none in cc)
+          absurd (let is : get_or xs k d ≡ s = ap (λ j. get_or xs j d) same ∙ reads xs i s d at in let clash : true ≡ false = sym listed ∙ ap slot_has_list is ∙ none in cc)
       by k d low (inr away) = but.listed k (get_or xs k d) (there xs k d low) away
 
     -- its list goes back where it is long enough and there is room
@@ -149,7 +149,7 @@ module _ {T U : Type 0} where
       by k d low (inl here) = λ listed.
           absurd (
           let is : get_or (slice_set xs i t) k d ≡ t = ap (λ j. get_or (slice_set xs i t) j d) here ∙ reads (slice_set xs i t) i t d (set-here xs i s t at) in
-          let has : has_list t ≡ true = sym (ap has_list is) ∙ listed in
+          let has : slot_has_list t ≡ true = sym (ap slot_has_list is) ∙ listed in
           let some = (has-some t has).1 in
           omega (arith, some, none)
           )
@@ -183,7 +183,7 @@ module _ {T U : Type 0} where
       by (inr long) (inr full) = inr (omega (arith, full, more))
 
     -- a slot that waits for a list finds one
-    pub spares : HasLists most spare number xs → waits s ≡ true → 0 < spare
+    pub spares : HasLists most spare number xs → slot_waits s ≡ true → 0 < spare
     spares has is =
         let want = waits-for s is in
         let one = is-open (content_of number s) (shown has want.0) want.2 in
@@ -194,11 +194,11 @@ module _ {T U : Type 0} where
         let map-is : open_count (contents_of number xs) ≡ sum_by (λ (z : SlotState T U). one_if_open (content_of number z)) xs = sum-map one_if_open (content_of number) xs in
         omega (arith, has.kept, has.opened, count, map-is)
       where
-        no-list : s.cell_room ≡ 0 → has_list s ≡ false
+        no-list : s.cell_room ≡ 0 → slot_has_list s ≡ false
         no-list none = ap (λ n. nat_lt 0 s.content.lists && nat_lt 0 n) none ∙ and-false (nat_lt 0 s.content.lists)
 
     -- it gets one that is to spare
-    pub handed-out : (has : HasLists most spare number xs) → waits s ≡ true → (spare' room : ℕ) → spare' + 1 ≡ spare → most ≤ room
+    pub handed-out : (has : HasLists most spare number xs) → slot_waits s ≡ true → (spare' room : ℕ) → spare' + 1 ≡ spare → most ≤ room
         → (t : SlotState T U) → t.content ≡ s.content → t.cell_room ≡ room → HasLists most spare' number (slice_set xs i t)
     handed-out has is spare' room one_less long t same is-room =
         let want = waits-for s is in
@@ -211,7 +211,7 @@ module _ {T U : Type 0} where
         omega (arith, one_less, none, one))
         (let one : one_if_open (content_of number t) ≡ one_if_open (content_of number s) = ap (λ (c : ContentState T U). one_if_open (with_lists number c)) same in omega (arith, has.opened, opened-changed t, one))
       where
-        no-list : s.cell_room ≡ 0 → has_list s ≡ false
+        no-list : s.cell_room ≡ 0 → slot_has_list s ≡ false
         no-list none = ap (λ n. nat_lt 0 s.content.lists && nat_lt 0 n) none ∙ and-false (nat_lt 0 s.content.lists)
 
     -- what a slot is that got a list with this room
@@ -221,17 +221,17 @@ module _ {T U : Type 0} where
     pub listed-same : (room : ℕ) → contents_of number (slice_set xs i (listed-in room)) ≡ contents_of number xs
     listed-same room = same-contents (listed-in room) refl
 
-    pub listed-lists : (has : HasLists most spare number xs) → waits s ≡ true → (spare' room : ℕ) → spare' + 1 ≡ spare → most ≤ room → HasLists most spare' number (slice_set xs i (listed-in room))
+    pub listed-lists : (has : HasLists most spare number xs) → slot_waits s ≡ true → (spare' room : ℕ) → spare' + 1 ≡ spare → most ≤ room → HasLists most spare' number (slice_set xs i (listed-in room))
     listed-lists has is spare' room less long = handed-out has is spare' room less long (listed-in room) refl refl
 
-    pub listed-ready : HasLists most spare number xs → waits s ≡ true → (room : ℕ) → most ≤ room → IsSomeAnd (slice_get (slice_set xs i (listed-in room)) i) (λ z. waits z ≡ false)
+    pub listed-ready : HasLists most spare number xs → slot_waits s ≡ true → (room : ℕ) → most ≤ room → IsSomeAnd (slice_get (slice_set xs i (listed-in room)) i) (λ z. slot_waits z ≡ false)
     listed-ready has is room long =
         let some = ((of-all (ShowsAtMost most) has.shown).0 (waits-for s is).0).1 in
         let no = no-wait s.content.lists room (length s.content.cells) (omega (arith, some, long)) in
-        subst (λ o. IsSomeAnd o (λ z. waits z ≡ false)) (sym (set-here xs i s (listed-in room) at)) no
+        subst (λ o. IsSomeAnd o (λ z. slot_waits z ≡ false)) (sym (set-here xs i s (listed-in room) at)) no
 
     -- the list is long enough for it
-    pub listed-fits : HasLists most spare number xs → waits s ≡ true → (room : ℕ) → most ≤ room → s.content.room ≤ room
+    pub listed-fits : HasLists most spare number xs → slot_waits s ≡ true → (room : ℕ) → most ≤ room → s.content.room ≤ room
     listed-fits has is room long = let fits = ((of-all (ShowsAtMost most) has.shown).0 (waits-for s is).0).0 in omega (arith, fits, long)
 
     -- a write, or the end of a loan, leaves no cells
@@ -242,19 +242,19 @@ module _ {T U : Type 0} where
     ended-lists has t is = rw is (ended (with_content ended_content s) has (of-all (ShowsAtMost most) has.shown) refl refl refl)
 
     -- the slot has a list then where it had one before
-    still-has : (y : SlotState T U) → y ≡ get_or xs i y → (had : Bool) → had ≡ has_list y → (f : ContentState T U → ContentState T U) → (f s.content).lists ≡ s.content.lists
-        → (t : SlotState T U) → t ≡ with_content f s → IsSomeAnd (slice_get (slice_set xs i t) i) (λ z. has_list z ≡ had)
+    still-has : (y : SlotState T U) → y ≡ get_or xs i y → (had : Bool) → had ≡ slot_has_list y → (f : ContentState T U → ContentState T U) → (f s.content).lists ≡ s.content.lists
+        → (t : SlotState T U) → t ≡ with_content f s → IsSomeAnd (slice_get (slice_set xs i t) i) (λ z. slot_has_list z ≡ had)
     still-has y read had known f same t is =
         let there : y ≡ s = read ∙ reads xs i s y at in
-        let has : has_list t ≡ had = rw (is, same, known, there) refl in
-        subst (λ o. IsSomeAnd o (λ z. has_list z ≡ had)) (sym (set-here xs i s t at)) has
+        let has : slot_has_list t ≡ had = rw (is, same, known, there) refl in
+        subst (λ o. IsSomeAnd o (λ z. slot_has_list z ≡ had)) (sym (set-here xs i s t at)) has
 
-    pub written-has : (y : SlotState T U) → y ≡ get_or xs i y → (had : Bool) → had ≡ has_list y → (values : List T) (t : SlotState T U) → t ≡ with_content (written_content values) s
-        → IsSomeAnd (slice_get (slice_set xs i t) i) (λ z. has_list z ≡ had)
+    pub written-has : (y : SlotState T U) → y ≡ get_or xs i y → (had : Bool) → had ≡ slot_has_list y → (values : List T) (t : SlotState T U) → t ≡ with_content (written_content values) s
+        → IsSomeAnd (slice_get (slice_set xs i t) i) (λ z. slot_has_list z ≡ had)
     written-has y read had known values t is = still-has y read had known (written_content values) refl t is
 
-    pub ended-has : (y : SlotState T U) → y ≡ get_or xs i y → (had : Bool) → had ≡ has_list y → (t : SlotState T U) → t ≡ with_content ended_content s
-        → IsSomeAnd (slice_get (slice_set xs i t) i) (λ z. has_list z ≡ had)
+    pub ended-has : (y : SlotState T U) → y ≡ get_or xs i y → (had : Bool) → had ≡ slot_has_list y → (t : SlotState T U) → t ≡ with_content ended_content s
+        → IsSomeAnd (slice_get (slice_set xs i t) i) (λ z. slot_has_list z ≡ had)
     ended-has y read had known t is = still-has y read had known ended_content refl t is
 
     -- a loan starts in a slot whose last one has no cells any more
@@ -285,7 +285,7 @@ module _ {T U : Type 0} where
 
     -- a slot without cells frees its room
     pub cleared-lists : HasLists most spare number xs → (t : SlotState T U) → s.content.cells ≡ [] → t.content.cells ≡ [] → t.content.lists ≡ s.content.lists → t.content.is_in_place ≡ s.content.is_in_place
-        → t.content.room ≤ s.content.room → has_list t ≡ false → HasLists most spare number (slice_set xs i t)
+        → t.content.room ≤ s.content.room → slot_has_list t ≡ false → HasLists most spare number (slice_set xs i t)
     cleared-lists has t none gone lists place room no-list =
         let shows = of-all (ShowsAtMost most) has.shown in
         changed t has spare (
@@ -327,10 +327,10 @@ module _ {T U : Type 0} (old mid : List (ContentState T U)) (slot : ℕ) (was : 
 
 module _ {T U : Type 0} (most spare number : ℕ) (xs : List (SlotState T U)) (i : ℕ) (s : SlotState T U) (at : slice_get xs i ≡ Some s) where
   -- a write leaves all well where the slot has no list
-  pub written-recycled : HasLists most spare number xs → (y : SlotState T U) → y ≡ get_or xs i y → (had : Bool) → had ≡ has_list y → had ≡ false → (values : List T) (t : SlotState T U)
+  pub written-recycled : HasLists most spare number xs → (y : SlotState T U) → y ≡ get_or xs i y → (had : Bool) → had ≡ slot_has_list y → had ≡ false → (values : List T) (t : SlotState T U)
       → t ≡ with_content (written_content values) s → HasLists most spare number (slice_set xs i t)
   written-recycled has y read had known none values t is =
       let there : y ≡ s = read ∙ reads xs i s y at in
-      let kept : has_list t ≡ has_list s = ap has_list is in
+      let kept : slot_has_list t ≡ slot_has_list s = ap slot_has_list is in
       recycled most spare number (slice_set xs i t) i t (set-here xs i s t at) (written-lists most spare number xs i s at has values t is)
-      (kept ∙ ap has_list (sym there) ∙ sym known ∙ none)
+      (kept ∙ ap slot_has_list (sym there) ∙ sym known ∙ none)

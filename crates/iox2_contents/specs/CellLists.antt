@@ -15,16 +15,16 @@ pub record CellList (T : Type 0) : Type 0 where
 
 module _ {T : Type 0} where
   -- These cells, in the same list.
-  abbrev pub with_items : (items : List (Option T)) → CellList T → CellList T
-  with_items items list = record list { items = items }
+  abbrev pub with_cell_items : (items : List (Option T)) → CellList T → CellList T
+  with_cell_items items list = record list { items = items }
 
   -- The first cell changed.
-  abbrev pub with_first : (cell : Option T) → CellList T → CellList T
-  with_first cell list = record list { items = slice_set list.items 0 cell }
+  abbrev pub with_first_cell_in : (cell : Option T) → CellList T → CellList T
+  with_first_cell_in cell list = record list { items = slice_set list.items 0 cell }
 
   -- The cells changed. They stay as many.
-  abbrev pub with_each : (items : List (Option T)) → CellList T → CellList T
-  with_each items list = record list { items = refill (length list.items) list.items items }
+  abbrev pub with_each_cell_in : (items : List (Option T)) → CellList T → CellList T
+  with_each_cell_in items list = record list { items = refill (length list.items) list.items items }
 
   -- The cells have one of their publisher's lists.
   abbrev pub has_list : CellList T → Bool

@@ -8,12 +8,12 @@ use Rattle.iox2_contents.specs.contracts.content.Content.{the_row}
 
 module _ (T U : RattleType) (slot : MutBor (SlotState T.Denot U.Denot)) where
   -- It ends with the first cell as it was left.
-  abbrev pub LendsCell : MutBor (Option T.Denot) → Fml
-  LendsCell lent = Lends (the_row T U) (option_row T) slot lent (λ cell. with_content (with_first_cell cell) slot.now)
+  abbrev pub SlotLendsCell : MutBor (Option T.Denot) → Fml
+  SlotLendsCell lent = Lends (the_row T U) (option_row T) slot lent (λ cell. with_content (with_first_cell cell) slot.now)
 
   -- It ends with the cells as they were left.
-  abbrev pub LendsCells : MutBor (List (Option T.Denot)) → Fml
-  LendsCells lent = Lends (the_row T U) (Array (option_row T) 0) slot lent (λ cells. with_content (with_cells cells) slot.now)
+  abbrev pub SlotLendsCells : MutBor (List (Option T.Denot)) → Fml
+  SlotLendsCells lent = Lends (the_row T U) (Array (option_row T) 0) slot lent (λ cells. with_content (with_cells cells) slot.now)
 
   -- It ends with the first value as it was left.
   abbrev pub LendsValue : MutBor T.Denot → Fml
@@ -24,5 +24,5 @@ module _ (T U : RattleType) (slot : MutBor (SlotState T.Denot U.Denot)) where
   LendsValues lent = Lends (the_row T U) (Array T 0) slot lent (λ values. with_content (with_values values) slot.now)
 
   -- It ends with the user header as it was left.
-  abbrev pub LendsUserHeader : MutBor U.Denot → Fml
-  LendsUserHeader lent = Lends (the_row T U) U slot lent (λ user_header. with_content (with_user_header user_header) slot.now)
+  abbrev pub SlotLendsUserHeader : MutBor U.Denot → Fml
+  SlotLendsUserHeader lent = Lends (the_row T U) U slot lent (λ user_header. with_content (with_user_header user_header) slot.now)

@@ -7,21 +7,21 @@ use Rattle.iox2_contents.specs.contracts.contents.Contents.{the_row}
 
 module _ (T U : RattleType) (contents : MutBor (List (ContentState T.Denot U.Denot))) (slot : ℕ) where
   -- They end with the first cell of the slot as it was left.
-  abbrev pub LendsCell : MutBor (Option T.Denot) → Fml
-  LendsCell lent = Lends (the_row T U) (option_row T) contents lent (λ cell. with_changed contents.now slot (with_first_cell cell))
+  abbrev pub ContentsLendCell : MutBor (Option T.Denot) → Fml
+  ContentsLendCell lent = Lends (the_row T U) (option_row T) contents lent (λ cell. with_changed contents.now slot (with_first_cell cell))
 
   -- They end with the cells of the slot as they were left.
-  abbrev pub LendsCells : MutBor (List (Option T.Denot)) → Fml
-  LendsCells lent = Lends (the_row T U) (Array (option_row T) 0) contents lent (λ cells. with_changed contents.now slot (with_cells cells))
+  abbrev pub ContentsLendCells : MutBor (List (Option T.Denot)) → Fml
+  ContentsLendCells lent = Lends (the_row T U) (Array (option_row T) 0) contents lent (λ cells. with_changed contents.now slot (with_cells cells))
 
   -- They end with the first value of the slot as it was left.
-  abbrev pub LendsValue : MutBor T.Denot → Fml
-  LendsValue lent = Lends (the_row T U) T contents lent (λ value. with_changed contents.now slot (with_first_value value))
+  abbrev pub ContentsLendValue : MutBor T.Denot → Fml
+  ContentsLendValue lent = Lends (the_row T U) T contents lent (λ value. with_changed contents.now slot (with_first_value value))
 
   -- They end with the values of the slot as they were left.
-  abbrev pub LendsValues : MutBor (List T.Denot) → Fml
-  LendsValues lent = Lends (the_row T U) (Array T 0) contents lent (λ values. with_changed contents.now slot (with_values values))
+  abbrev pub ContentsLendValues : MutBor (List T.Denot) → Fml
+  ContentsLendValues lent = Lends (the_row T U) (Array T 0) contents lent (λ values. with_changed contents.now slot (with_values values))
 
   -- They end with the user header of the slot as it was left.
-  abbrev pub LendsUserHeader : MutBor U.Denot → Fml
-  LendsUserHeader lent = Lends (the_row T U) U contents lent (λ user_header. with_changed contents.now slot (with_user_header user_header))
+  abbrev pub ContentsLendUserHeader : MutBor U.Denot → Fml
+  ContentsLendUserHeader lent = Lends (the_row T U) U contents lent (λ user_header. with_changed contents.now slot (with_user_header user_header))

@@ -45,12 +45,12 @@ module _ {T U : Type 0} where
   -- ---- which slots may need a list of cells
 
   -- The slot has cells, which can be handed out as a list.
-  abbrev pub is_open : ContentState T U → Bool
-  is_open content = nat_lt 0 content.lists && nat_lt 0 (length content.cells)
+  abbrev pub has_cells_to_hand_out : ContentState T U → Bool
+  has_cells_to_hand_out content = nat_lt 0 content.lists && nat_lt 0 (length content.cells)
 
   -- How many slots have such cells.
   abbrev pub open_count : List (ContentState T U) → ℕ
-  open_count contents = sum_by (λ content. if is_open content then 1 else 0) contents
+  open_count contents = sum_by (λ content. if has_cells_to_hand_out content then 1 else 0) contents
 
   -- ---- what a reference into a content leaves
 

@@ -52,10 +52,10 @@ module _ {T : Type 0} where
   cell_room_of (Elements elements) = elements.value.cells.room
 
   -- There is room in lists for the values of a loan once it is written, and for its first cell where its publisher keeps no lists.
-  abbrev pub HasRoom : Payload T → Type 0
-  HasRoom Empty = Unit {0}
-  HasRoom (Unwritten cell) = Unit {0}
-  HasRoom (Written value) = Unit {0}
-  HasRoom (Elements elements) =
+  abbrev pub HasListRoom : Payload T → Type 0
+  HasListRoom Empty = Unit {0}
+  HasListRoom (Unwritten cell) = Unit {0}
+  HasListRoom (Written value) = Unit {0}
+  HasListRoom (Elements elements) =
       (length elements.value.cells.items ≤ elements.value.values.room)
       × (elements.value.cells.lists ≡ 0 → 0 < elements.value.values.room → 0 < elements.value.cells.room)

@@ -3,7 +3,7 @@ use Rattle.std.specs.Prelude.{◌≡◌, ◌≢◌, ◌<◌, ◌≤◌, ◌+◌,
 use Rattle.std.specs.List.{All}
 use Rattle.std.specs.declared.option.Option.TheVariants.{Some}
 use Rattle.iox2_contents.specs.SlotContents.{open_count}
-use Rattle.iox2_contents.specs.SlotStates.{SlotState, contents_of, has_list}
+use Rattle.iox2_contents.specs.SlotStates.{SlotState, contents_of, slot_has_list}
 
 module _ {T U : Type 0} where
   -- That many unwritten cells are enough to be shown as those of a slot.
@@ -12,7 +12,7 @@ module _ {T U : Type 0} where
 
   -- Only cells have a list.
   abbrev pub ListsCells : SlotState T U → Type 0
-  ListsCells slot = has_list slot ≡ true → 0 < length slot.content.cells
+  ListsCells slot = slot_has_list slot ≡ true → 0 < length slot.content.cells
 
   -- One where the slot has a list that is long enough for each slot.
   abbrev pub one_if_long : (most : ℕ) → SlotState T U → ℕ

@@ -28,12 +28,12 @@ module _ {T U : Type 0} where
   with_content f slot = record slot { content = f slot.content }
 
   -- The cells have one of their publisher's lists.
-  abbrev pub has_list : SlotState T U → Bool
-  has_list slot = nat_lt 0 slot.content.lists && nat_lt 0 slot.cell_room
+  abbrev pub slot_has_list : SlotState T U → Bool
+  slot_has_list slot = nat_lt 0 slot.content.lists && nat_lt 0 slot.cell_room
 
   -- There are cells that need one of their publisher's lists before they can be written.
-  abbrev pub waits : SlotState T U → Bool
-  waits slot = nat_lt 0 slot.content.lists && (slot.cell_room == 0 && nat_lt 0 (length slot.content.cells))
+  abbrev pub slot_waits : SlotState T U → Bool
+  slot_waits slot = nat_lt 0 slot.content.lists && (slot.cell_room == 0 && nat_lt 0 (length slot.content.cells))
 
   -- The slot has no message yet, room for `room` elements, and a publisher that keeps `lists` lists of cells.
   pub record IsNew (is_default : U → Type 0) (room : ℕ) (in_lists : Bool) (lists : ℕ) (slot : SlotState T U) : Type 0 where
@@ -43,4 +43,4 @@ module _ {T U : Type 0} where
     pub rooms : slot.content.room ≡ room
     pub in_place : slot.content.is_in_place ≡ lies_in_place room in_lists
     pub lists_are : slot.content.lists ≡ keeps lists
-    pub none : has_list slot ≡ false
+    pub none : slot_has_list slot ≡ false

@@ -2,7 +2,7 @@
 ghost use Rattle.std.specs.Prelude.{◌≡◌, ◌<◌, ◌≤◌, ◌+◌, ◌&&◌, ◌==◌, [], ◌++◌, length, map, nat_lt, replicate, slice_get, vec_capacity, true, false, None, Some, IsSome, IfOk, is_some};
 ghost use Rattle.std.specs.Borrow.{sem};
 ghost use Rattle.std.specs.List.{All, list_all};
-ghost use Rattle.iox2_contents.specs.CellLists.{with_items, has_list, keeps, waits};
+ghost use Rattle.iox2_contents.specs.CellLists.{with_cell_items, has_list, keeps, waits};
 
 use std::alloc::{AllocError, Global};
 use std::marker::Model;
@@ -58,7 +58,7 @@ impl<T: Drop> Cells<T> {
     /// `len` unwritten cells, in place of those that were there.
     pub(crate) fn start(&mut self, len: usize)
         requires { 0 < self.old.lists → self.old.room ≡ 0 }
-        ensures { self.new ≡ with_items (replicate len None) self.old }
+        ensures { self.new ≡ with_cell_items (replicate len None) self.old }
     {
         self.unlisted = len;
         self.listed.clear();
@@ -67,7 +67,7 @@ impl<T: Drop> Cells<T> {
     /// Drops the cells. Returns how many there were.
     pub(crate) fn clear(&mut self) -> usize
         ensures count { result ≡ length self.old.items }
-        ensures cleared { self.new ≡ with_items [] self.old }
+        ensures cleared { self.new ≡ with_cell_items [] self.old }
     {
         let count = self.listed.len() + self.unlisted;
         self.listed.clear();
@@ -129,7 +129,7 @@ impl<T: Drop> Cells<T> {
         requires room { length self.old.items ≤ vec_capacity values }
         ensures values { map Some result.items ≡ self.old.items }
         ensures capacity { vec_capacity result ≡ vec_capacity values }
-        ensures cleared { self.new ≡ with_items [] self.old }
+        ensures cleared { self.new ≡ with_cell_items [] self.old }
     {
         let values = move_values(self.listed.as_mut_slice(), values);
         self.listed.clear();
@@ -138,7 +138,7 @@ impl<T: Drop> Cells<T> {
 }
 
 impl<T> Cells<T> {
-    ghost use Rattle.iox2_contents.specs.RoomLends.{LendsCell, LendsCells};
+    ghost use Rattle.iox2_contents.specs.RoomLends.{ListLendsCell, ListLendsCells};
 
     /// Whether each cell is written.
     pub(crate) fn are_written(&self) -> bool
@@ -192,7 +192,7 @@ impl<T> Cells<T> {
     pub(crate) fn cell_mut(&mut self) -> &mut Option<T>
         requires first { 0 < length self.old.items }
         requires room { 0 < self.old.room }
-        ensures* writes_back { sem 𝓛 (LendsCell T.row self.entry result) }
+        ensures* writes_back { sem 𝓛 (ListLendsCell T.row self.entry result) }
         ensures value { slice_get self.old.items 0 ≡ Some result.now }
     {
         if self.listed.is_empty() {
@@ -206,7 +206,7 @@ impl<T> Cells<T> {
     pub(crate) fn cells_mut(&mut self) -> &mut [Option<T>]
         requires lists { 0 < self.old.lists }
         requires ready { waits self.old ≡ false }
-        ensures* writes_back { sem 𝓛 (LendsCells T.row self.entry result) }
+        ensures* writes_back { sem 𝓛 (ListLendsCells T.row self.entry result) }
         ensures value { result.now ≡ self.old.items }
     {
         self.listed.as_mut_slice()

@@ -1,7 +1,7 @@
 //! The content of one slot.
 ghost use Rattle.std.specs.Prelude.{◌≡◌, ◌≤◌, [], ◌<◌, vec_capacity, true, false, IfOk};
 ghost use Rattle.iox2_contents.specs.SlotContents.{unwritten_content, ended_content};
-ghost use Rattle.iox2_contents.specs.SlotStates.{IsNew, has_list, waits, with_content};
+ghost use Rattle.iox2_contents.specs.SlotStates.{IsNew, slot_has_list, slot_waits, with_content};
 
 mod reads;
 mod references;
@@ -27,7 +27,7 @@ pub(crate) struct Content<T, U> {
 
 impl<T, U> Model for Content<T, U> {
     ghost use Rattle.iox2_contents.specs.SlotStates.{SlotState};
-    ghost use Rattle.iox2_contents.specs.SlotPayload.{HasRoom, cells_of, values_of, room_of, is_in_place, lists_of, cell_room_of};
+    ghost use Rattle.iox2_contents.specs.SlotPayload.{HasListRoom, cells_of, values_of, room_of, is_in_place, lists_of, cell_room_of};
 
     ghost Value = { SlotState T U };
 
@@ -43,7 +43,7 @@ impl<T, U> Model for Content<T, U> {
       cell_room = cell_room_of content.payload;
     } };
 
-    ghost invariant = { λ content. HasRoom content.payload };
+    ghost invariant = { λ content. HasListRoom content.payload };
 }
 
 impl<T: Drop, U: Default + Drop> Content<T, U> {
@@ -80,7 +80,7 @@ impl<T: Drop, U: Default + Drop> Content<T, U> {
     /// and one in lists once another is written.
     pub(crate) fn start(&mut self, len: usize)
         requires fit { len ≤ self.old.content.room }
-        requires none { has_list self.old ≡ false }
+        requires none { slot_has_list self.old ≡ false }
         ensures default { U.is_default self.new.content.user_header }
         ensures started { self.new ≡ with_content (unwritten_content self.new.content.user_header len) self.old }
     {
@@ -99,7 +99,7 @@ impl<T: Drop, U: Default + Drop> Content<T, U> {
     pub(crate) fn clear(&mut self, alloc: Global)
         ensures in_place { self.new.content.is_in_place ≡ self.old.content.is_in_place }
         ensures lists { self.new.content.lists ≡ self.old.content.lists }
-        ensures none { has_list self.new ≡ false }
+        ensures none { slot_has_list self.new ≡ false }
         ensures cells { self.new.content.cells ≡ [] }
         ensures room { self.new.content.room ≤ self.old.content.room }
         ensures freed { self.new.content.is_in_place ≡ false → self.new.content.room ≡ 0 }
@@ -131,7 +131,7 @@ impl<T: Drop, U: Default + Drop> Content<T, U> {
 impl<T: Drop, U> Content<T, U> {
     /// Lists the cells, which wait for a list, in one of their publisher's lists.
     pub(crate) fn put_list(&mut self, list: Vec<Option<T>>)
-        requires waits { waits self.old ≡ true }
+        requires slot_waits { slot_waits self.old ≡ true }
         requires empty { list.items ≡ [] }
         requires room { self.old.content.room ≤ vec_capacity list }
         requires wide { 1 < vec_capacity list }
@@ -145,7 +145,7 @@ impl<T: Drop, U> Content<T, U> {
 
     /// Drops the cells, and takes their list out.
     pub(crate) fn take_list(&mut self) -> Vec<Option<T>>
-        requires { has_list self.old ≡ true }
+        requires { slot_has_list self.old ≡ true }
         ensures empty { result.items ≡ [] }
         ensures list { vec_capacity result ≡ self.old.cell_room }
         ensures wide { 1 < vec_capacity result }

@@ -257,7 +257,7 @@ fn new_slots<T: Drop, U: Default + Drop>(
 }
 
 impl<T, U> Contents<T, U> {
-    ghost use Rattle.iox2_contents.specs.ContentsLends.{LendsValue, LendsValues, LendsUserHeader};
+    ghost use Rattle.iox2_contents.specs.ContentsLends.{ContentsLendValue, ContentsLendValues, ContentsLendUserHeader};
 
     /// The user header of the slot's loan or message.
     pub fn user_header(&self, slot: usize) -> &U
@@ -304,7 +304,7 @@ impl<T, U> Contents<T, U> {
     /// The user header of the slot's loan, to be changed.
     pub fn user_header_mut(&mut self, slot: usize) -> &mut U
         requires { slot < length self.old }
-        ensures* writes_back { sem 𝓛 (LendsUserHeader T.row U.row self.entry slot result) }
+        ensures* writes_back { sem 𝓛 (ContentsLendUserHeader T.row U.row self.entry slot result) }
         ensures value { user_header_at self.old slot ≡ Some result.now }
     {
         self.slots[slot].user_header_mut()
@@ -313,7 +313,7 @@ impl<T, U> Contents<T, U> {
     /// The first value of the slot's loan, to be changed. The loan is written.
     pub fn value_mut(&mut self, slot: usize) -> &mut T
         requires { SomeAt self.old slot (λ content. 0 < length content.values) }
-        ensures* writes_back { sem 𝓛 (LendsValue T.row U.row self.entry slot result) }
+        ensures* writes_back { sem 𝓛 (ContentsLendValue T.row U.row self.entry slot result) }
         ensures value { first_value_at self.old slot ≡ Some result.now }
     {
         self.slots[slot].value_mut()
@@ -322,7 +322,7 @@ impl<T, U> Contents<T, U> {
     /// The values of the slot's loan, to be changed, and none before it is written.
     pub fn values_mut(&mut self, slot: usize) -> &mut [T]
         requires { SomeAt self.old slot (λ content. content.is_in_place ≡ false) }
-        ensures* writes_back { sem 𝓛 (LendsValues T.row U.row self.entry slot result) }
+        ensures* writes_back { sem 𝓛 (ContentsLendValues T.row U.row self.entry slot result) }
         ensures value { values_at self.old slot ≡ Some result.now }
     {
         self.slots[slot].values_mut()
@@ -330,12 +330,12 @@ impl<T, U> Contents<T, U> {
 }
 
 impl<T: Drop, U> Contents<T, U> {
-    ghost use Rattle.iox2_contents.specs.ContentsLends.{LendsCell, LendsCells};
+    ghost use Rattle.iox2_contents.specs.ContentsLends.{ContentsLendCell, ContentsLendCells};
 
     /// The first cell of the slot's loan, to be changed. The loan isn't written.
     pub fn cell_mut(&mut self, slot: usize) -> &mut Option<T>
         requires { SomeAt self.old slot (λ content. 0 < length content.cells) }
-        ensures* writes_back { sem 𝓛 (LendsCell T.row U.row self.entry slot result) }
+        ensures* writes_back { sem 𝓛 (ContentsLendCell T.row U.row self.entry slot result) }
         ensures value { first_cell_at self.old slot ≡ Some result.now }
     {
         ready(&mut self.slots, &mut self.lists, slot);
@@ -347,7 +347,7 @@ impl<T: Drop, U> Contents<T, U> {
     /// written or ends.
     pub fn cells_mut(&mut self, slot: usize) -> &mut [Option<T>]
         requires { SomeAt self.old slot (λ content. 0 < content.lists) }
-        ensures* writes_back { sem 𝓛 (LendsCells T.row U.row self.entry slot result) }
+        ensures* writes_back { sem 𝓛 (ContentsLendCells T.row U.row self.entry slot result) }
         ensures value { cells_at self.old slot ≡ Some result.now }
     {
         ready(&mut self.slots, &mut self.lists, slot);

@@ -1,6 +1,6 @@
 //! Lists for the cells of the loans that are out.
 ghost use Rattle.std.specs.Prelude.{◌≡◌, ◌<◌, length, true, false, IsSomeAnd, slice_get};
-ghost use Rattle.iox2_contents.specs.SlotStates.{contents_of, has_list, waits};
+ghost use Rattle.iox2_contents.specs.SlotStates.{contents_of, slot_has_list, slot_waits};
 ghost use Rattle.iox2_contents.specs.SlotRooms.{HasLists, HasListsBut};
 
 use crate::cell_lists::CellLists;
@@ -16,7 +16,7 @@ pub(crate) fn recycle_list<T: Drop, U>(
     had_list: bool,
 )
     requires lists { HasListsBut slot lists.old.most lists.old.spare lists.old.room slots.old.items }
-    requires known { IsSomeAnd (slice_get slots.old.items slot) (λ s. has_list s ≡ had_list) }
+    requires known { IsSomeAnd (slice_get slots.old.items slot) (λ s. slot_has_list s ≡ had_list) }
     ensures same { contents_of lists.new.room slots.new.items ≡ contents_of lists.old.room slots.old.items }
     ensures lists { HasLists lists.new.most lists.new.spare lists.new.room slots.new.items }
 {
@@ -30,7 +30,7 @@ pub(crate) fn recycle_list<T: Drop, U>(
 #[inline(never)]
 fn take_back<T: Drop, U>(slots: &mut Vec<Content<T, U>>, lists: &mut CellLists<T>, slot: usize)
     requires lists { HasListsBut slot lists.old.most lists.old.spare lists.old.room slots.old.items }
-    requires has { IsSomeAnd (slice_get slots.old.items slot) (λ s. has_list s ≡ true) }
+    requires has { IsSomeAnd (slice_get slots.old.items slot) (λ s. slot_has_list s ≡ true) }
     ensures same { contents_of lists.new.room slots.new.items ≡ contents_of lists.old.room slots.old.items }
     ensures lists { HasLists lists.new.most lists.new.spare lists.new.room slots.new.items }
 {
@@ -48,7 +48,7 @@ pub(crate) fn ready<T: Drop, U>(
     requires within { slot < length slots.old.items }
     ensures same { contents_of lists.new.room slots.new.items ≡ contents_of lists.old.room slots.old.items }
     ensures lists { HasLists lists.new.most lists.new.spare lists.new.room slots.new.items }
-    ensures ready { IsSomeAnd (slice_get slots.new.items slot) (λ s. waits s ≡ false) }
+    ensures ready { IsSomeAnd (slice_get slots.new.items slot) (λ s. slot_waits s ≡ false) }
 {
     if slots[slot].waits() {
         hand_out(slots, lists, slot);
@@ -60,10 +60,10 @@ pub(crate) fn ready<T: Drop, U>(
 #[inline(never)]
 fn hand_out<T: Drop, U>(slots: &mut Vec<Content<T, U>>, lists: &mut CellLists<T>, slot: usize)
     requires lists { HasLists lists.old.most lists.old.spare lists.old.room slots.old.items }
-    requires waits { IsSomeAnd (slice_get slots.old.items slot) (λ s. waits s ≡ true) }
+    requires slot_waits { IsSomeAnd (slice_get slots.old.items slot) (λ s. slot_waits s ≡ true) }
     ensures same { contents_of lists.new.room slots.new.items ≡ contents_of lists.old.room slots.old.items }
     ensures lists { HasLists lists.new.most lists.new.spare lists.new.room slots.new.items }
-    ensures ready { IsSomeAnd (slice_get slots.new.items slot) (λ s. waits s ≡ false) }
+    ensures ready { IsSomeAnd (slice_get slots.new.items slot) (λ s. slot_waits s ≡ false) }
 {
     let list = lists.take();
     slots[slot].put_list(list);

@@ -1,7 +1,7 @@
 //! The payload of one slot.
 ghost use Rattle.std.specs.Prelude.{◌≡◌, ◌≤◌, [], length, map, true, false, Some, is_some};
 ghost use Rattle.std.specs.List.{list_all};
-ghost use Rattle.iox2_contents.specs.CellLists.{with_items as with_cells};
+ghost use Rattle.iox2_contents.specs.CellLists.{with_cell_items as with_cells};
 ghost use Rattle.iox2_contents.specs.RoomLists.{with_items as with_values};
 
 use crate::cells::Cells;

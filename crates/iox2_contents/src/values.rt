@@ -137,7 +137,7 @@ impl<T: Copy + Default + Drop> Values<T> {
 }
 
 impl<T> Values<T> {
-    ghost use Rattle.iox2_contents.specs.RoomLends.{LendsValue, LendsValues};
+    ghost use Rattle.iox2_contents.specs.RoomLends.{ListLendsValue, ListLendsValues};
 
     /// The values.
     pub(crate) fn values(&self) -> &[T]
@@ -149,7 +149,7 @@ impl<T> Values<T> {
     /// The first value, to be changed.
     pub(crate) fn value_mut(&mut self) -> &mut T
         requires { 0 < length self.old.items }
-        ensures* writes_back { sem 𝓛 (LendsValue T.row self.entry result) }
+        ensures* writes_back { sem 𝓛 (ListLendsValue T.row self.entry result) }
         ensures value { slice_get self.old.items 0 ≡ Some result.now }
     {
         &mut self.kept[0]
@@ -157,7 +157,7 @@ impl<T> Values<T> {
 
     /// The values, to be changed.
     pub(crate) fn values_mut(&mut self) -> &mut [T]
-        ensures* writes_back { sem 𝓛 (LendsValues T.row self.entry result) }
+        ensures* writes_back { sem 𝓛 (ListLendsValues T.row self.entry result) }
         ensures value { result.now ≡ self.old.items }
     {
         self.kept.slice_mut(..self.written)

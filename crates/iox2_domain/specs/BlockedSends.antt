@@ -14,7 +14,7 @@ use Rattle.iox2_connections.specs.declared.sender.DeliveryOutcome.{DeliveryOutco
 use Rattle.iox2_domain.specs.declared.publisher_state.BlockedDelivery.{BlockedDelivery}
 use Rattle.iox2_domain.specs.Ports.{PublisherFields}
 use Rattle.iox2_domain.specs.Kept.{state_of, entries_of}
-use Rattle.iox2_domain.specs.Fields.{Fields, kept_of, numbers_of, within_reach, blocked_send}
+use Rattle.iox2_domain.specs.Fields.{Fields, kept_of, number_in_slot, within_reach, blocked_send}
 use Rattle.iox2_domain.specs.Invariant.{IsDomain}
 use Rattle.iox2_domain.specs.KeptPlaces.{KeepsPlaces}
 use Rattle.iox2_domain.specs.Deliveries.{DeliversFrom}
@@ -56,7 +56,7 @@ pub record HasBlocked {T U : Type 0} (f : Fields T U) (place : ℕ) : Type 0 whe
 
 -- The blocked send of the publisher x, as the machine knows it.
 abbrev pub waiting_send : {T U : Type 0} → Fields T U → PublisherFields → BlockedDelivery → BlockedSend
-waiting_send f x b = blocked_send (numbers_of f.books x.id) (sender_ends f.connections x.keys) b
+waiting_send f x b = blocked_send (number_in_slot f.books x.id) (sender_ends f.connections x.keys) b
 
 -- The blocked send of the publisher x was tried again, with this result. No entry is newly kept.
 pub record RetriesAs {T U : Type 0} (environment : Environment) (old new : Fields T U) (x : PublisherFields) (b : BlockedDelivery) (elapsed : Duration) (result : SendResult) : Type 0 where

@@ -35,7 +35,7 @@ with_begun f place x b book = record f {
 
 -- The loan n was sent into that channel of the connection at that place, with this result. Its entry may be newly kept, and no other
 -- is.
-pub record SendsLoanTo {T U : Type 0} (environment : Environment) (old new : Fields T U) (n channel connection : ℕ) (result : SendResult) : Type 0 where
+pub record SendsKeptLoanTo {T U : Type 0} (environment : Environment) (old new : Fields T U) (n channel connection : ℕ) (result : SendResult) : Type 0 where
   pub loan : Loan T U
   pub out : (state_of (kept_of old)).loans n ≡ Some loan
   pub agrees : IsDomain new

@@ -83,7 +83,7 @@ module _ {T U : Type 0} (environment : Environment) where
 
   -- The publisher x at the place i is updated, with this failure if any, and nothing changed except its keys, its mark,
   -- connections, counters of slots, warnings and the room for keys.
-  pub record UpdatesPublisher (f : Fields T U) (i : ℕ) (x : PublisherFields) (f' : Fields T U) (failure : Option ConnectionFailure) : Type 0 where
+  pub record UpdatesKeptPublisher (f : Fields T U) (i : ℕ) (x : PublisherFields) (f' : Fields T U) (failure : Option ConnectionFailure) : Type 0 where
     pub after : State T U
     pub updates : UpdatePublisher environment (state_of (kept_of f)) x.id after failure
     pub reaches : Reaches f f' after

@@ -87,9 +87,9 @@ with_send outcome f place x slot book = record f {
 }
 
 -- What the machine's send returns.
-abbrev pub result_of_send : DeliveryOutcome → SendResult
-result_of_send (DeliveryOutcome.Complete count has_failed) = if has_failed then Send_error UnableToDeliver else Delivered_to count
-result_of_send (DeliveryOutcome.Suspended progress) = Blocked_send
+abbrev pub result_of_delivery : DeliveryOutcome → SendResult
+result_of_delivery (DeliveryOutcome.Complete count has_failed) = if has_failed then Send_error UnableToDeliver else Delivered_to count
+result_of_delivery (DeliveryOutcome.Suspended progress) = Blocked_send
 
 -- The slot is a loan of the publisher x: it stands once among its loans, and the publisher itself is its one holder.
 pub record CanSend {T U : Type 0} (f : Fields T U) (x : PublisherFields) (slot : ℕ) : Type 0 where

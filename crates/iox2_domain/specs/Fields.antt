@@ -39,8 +39,8 @@ abbrev pub is_book_of : ℕ → Book → Bool
 is_book_of p book = book.publisher == p
 
 -- The number of the message in each slot of the publisher p.
-abbrev pub numbers_of : Slab Book → (p slot : ℕ) → ℕ
-numbers_of books p slot = option_map_or (λ (book : Book). slice_index book.numbers slot) (look_up (is_book_of p) books.slots) 0
+abbrev pub number_in_slot : Slab Book → (p slot : ℕ) → ℕ
+number_in_slot books p slot = option_map_or (λ (book : Book). slice_index book.numbers slot) (look_up (is_book_of p) books.slots) 0
 
 -- ---- what lies in slots
 
@@ -121,11 +121,11 @@ module _ (books : Slab Book) (connections : Slab Link) where
       backpressure_strategy = x.strategy;
       backpressure_handler = x.backpressure_handler;
       degradation_handler = x.degradation_handler;
-      loans = map (numbers_of books x.id) x.loans;
-      history = map (numbers_of books x.id) x.history.items;
+      loans = map (number_in_slot books x.id) x.loans;
+      history = map (number_in_slot books x.id) x.history.items;
       ends = sender_ends connections x.keys;
       is_due = x.is_due;
-      blocked = option_map (blocked_send (numbers_of books x.id) (sender_ends connections x.keys)) x.blocked;
+      blocked = option_map (blocked_send (number_in_slot books x.id) (sender_ends connections x.keys)) x.blocked;
     };
   }
 
@@ -146,7 +146,7 @@ module _ (books : Slab Book) (connections : Slab Link) where
 
   -- What lies in a connection.
   abbrev pub between_of : Link → Between
-  between_of c = record { publisher = c.home.publisher; subscriber = c.home.subscriber; mailbox = mailbox_of (numbers_of books c.home.publisher) c; channels = c.channels }
+  between_of c = record { publisher = c.home.publisher; subscriber = c.home.subscriber; mailbox = mailbox_of (number_in_slot books c.home.publisher) c; channels = c.channels }
 
 -- What the fields keep, beside these boxes.
 abbrev pub keeping : {T U F G : Type 0} → DomainBoxes F G → Fields T U → Kept T U F G

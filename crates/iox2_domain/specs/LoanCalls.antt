@@ -54,12 +54,12 @@ module _ {T U : Type 0} where
   HasContentIn f key slot P = (contents : List (ContentState T U)) × (slice_index_or f.contents key None ≡ Some contents) × SomeAt contents slot P
 
   -- What lies in the slot of the book at the key is changed so.
-  abbrev pub with_content : Fields T U → (key slot : ℕ) → (ContentState T U → ContentState T U) → Fields T U
-  with_content f key slot change = record f { contents = slice_set f.contents key (Some (with_changed (contents_at f.contents key) slot change)) }
+  abbrev pub with_content_in_slot : Fields T U → (key slot : ℕ) → (ContentState T U → ContentState T U) → Fields T U
+  with_content_in_slot f key slot change = record f { contents = slice_set f.contents key (Some (with_changed (contents_at f.contents key) slot change)) }
 
   -- The slot of the book at the key is marked so.
-  abbrev pub with_mark : Fields T U → (key slot : ℕ) → Book → SlotMark → Fields T U
-  with_mark f key slot book mark = record f { books = with_value f.books key (record book { marks = slice_set book.marks slot mark }) }
+  abbrev pub with_slot_mark : Fields T U → (key slot : ℕ) → Book → SlotMark → Fields T U
+  with_slot_mark f key slot book mark = record f { books = with_value f.books key (record book { marks = slice_set book.marks slot mark }) }
 
   -- ---- what a reference into a loan leaves
 

@@ -13,7 +13,7 @@ use Rattle.iox2_machine.specs.machine.Receives.{ReceiveResult, Got_sample, No_sa
 use Rattle.iox2_machine.specs.declared.errors.ReceiveError.{ReceiveError}
 use Rattle.iox2_connections.specs.declared.receiver.Taken.{Taken}
 use Rattle.iox2_domain.specs.Kept.{state_of}
-use Rattle.iox2_domain.specs.Fields.{Fields, kept_of, numbers_of}
+use Rattle.iox2_domain.specs.Fields.{Fields, kept_of, number_in_slot}
 use Rattle.iox2_domain.specs.Reaches.{Reaches}
 use Rattle.iox2_domain.specs.declared.sample_slots.Receipt.{Receipt}
 
@@ -45,7 +45,7 @@ module _ {T U : Type 0} where
     pub its : receipt.sample.subscriber ≡ q
     pub book_is : receipt.sample.book ≡ connection.home.book
     pub borrowed : Contains connection.borrowed receipt.sample.slot
-    pub number_is : receipt.sample.number ≡ numbers_of f.books connection.home.publisher receipt.sample.slot
+    pub number_is : receipt.sample.number ≡ number_in_slot f.books connection.home.publisher receipt.sample.slot
 
   -- The same of what a call returns.
   abbrev pub LiesIfAny : Fields T U → (q : ℕ) → Result (Option Receipt) ReceiveError → Type 0

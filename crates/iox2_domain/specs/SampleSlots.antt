@@ -5,7 +5,7 @@ use Rattle.slab.specs.Slab.{get}
 use Rattle.iox2_connections.specs.Link.{Link}
 use Rattle.iox2_machine.specs.machine.Numbers.{contains}
 use Rattle.iox2_slots.specs.SlotBook.{Book}
-use Rattle.iox2_domain.specs.Fields.{Fields, numbers_of}
+use Rattle.iox2_domain.specs.Fields.{Fields, number_in_slot}
 use Rattle.iox2_domain.specs.declared.message_slots.MessageSlot.{MessageSlot}
 use Rattle.iox2_domain.specs.declared.sample_slots.SampleAt.{SampleAt}
 use Rattle.iox2_domain.specs.declared.sample_slots.SampleSlot.{SampleSlot}
@@ -48,4 +48,4 @@ pub record BorrowsAt {T U : Type 0} (f : Fields T U) (key subscriber number : �
   pub connection : Link
   pub stands : get f.connections key ≡ Some connection
   pub subscriber_is : connection.home.subscriber ≡ subscriber
-  pub is_borrowed : contains (map (numbers_of f.books connection.home.publisher) connection.borrowed) number ≡ true
+  pub is_borrowed : contains (map (number_in_slot f.books connection.home.publisher) connection.borrowed) number ≡ true

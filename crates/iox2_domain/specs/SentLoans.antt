@@ -12,7 +12,7 @@ use Rattle.iox2_connections.specs.LookUp.{look_up}
 use Rattle.iox2_domain.specs.Handlers.{may_fail}
 use Rattle.iox2_domain.specs.Kept.{state_of, entries_of}
 use Rattle.iox2_domain.specs.Fields.{Fields, kept_of}
-use Rattle.iox2_domain.specs.Connects.{UpdatesPublisher}
+use Rattle.iox2_domain.specs.Connects.{UpdatesKeptPublisher}
 use Rattle.iox2_domain.specs.Invariant.{IsDomain, is_publisher}
 use Rattle.iox2_domain.specs.KeptPlaces.{KeepsPlaces}
 use Rattle.iox2_domain.specs.LoanSlots.{LiesInSlot}
@@ -23,7 +23,7 @@ pub record IsReadyToSend {T U : Type 0} (environment : Environment) (old new : F
   pub publisher : PublisherFields
   pub stands : slice_index_or old.publishers place None ≡ Some publisher
   pub is_its : publisher.id ≡ p
-  pub updated : UpdatesPublisher environment old place publisher new None
+  pub updated : UpdatesKeptPublisher environment old place publisher new None
   pub key : ℕ
   pub lies : LiesInSlot new p n key slot
 
@@ -32,7 +32,7 @@ pub record IsNotUpdated {T U : Type 0} (environment : Environment) (old new : Fi
   pub publisher : PublisherFields
   pub stands : slice_index_or old.publishers place None ≡ Some publisher
   pub is_its : publisher.id ≡ p
-  pub updated : UpdatesPublisher environment old place publisher new (Some failure)
+  pub updated : UpdatesKeptPublisher environment old place publisher new (Some failure)
 
 -- The publisher p is gone, and nothing was changed.
 pub record IsLeftLoan {T U : Type 0} (old new : Fields T U) (p : ℕ) : Type 0 where
@@ -40,7 +40,7 @@ pub record IsLeftLoan {T U : Type 0} (old new : Fields T U) (p : ℕ) : Type 0 w
   pub same : new ≡ old
 
 -- The loan n was sent, with this result, and it is in its user's hands no more. Its entry may be newly kept, and no other is.
-pub record SendsLoan {T U : Type 0} (environment : Environment) (old new : Fields T U) (n : ℕ) (result : SendResult) : Type 0 where
+pub record SendsKeptLoan {T U : Type 0} (environment : Environment) (old new : Fields T U) (n : ℕ) (result : SendResult) : Type 0 where
   pub loan : Loan T U
   pub out : (state_of (kept_of old)).loans n ≡ Some loan
   pub agrees : IsDomain new

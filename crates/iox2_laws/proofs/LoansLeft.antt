@@ -13,7 +13,7 @@ use Rattle.iox2_machine.specs.machine.State.{State, with_loan, publisher_changed
 use Rattle.iox2_machine.specs.machine.PublisherUpdate.{UpdatePublisher}
 use Rattle.iox2_machine.specs.machine.SubscriberUpdate.{UpdateSubscriber}
 use Rattle.iox2_machine.specs.machine.Loans.{GrantLoan, is_static, loan_granted, loan_discarded}
-use Rattle.iox2_machine.specs.machine.LoansLeft.{CanLend, LendsValues}
+use Rattle.iox2_machine.specs.machine.LoansLeft.{CanLend, LendsWithoutGrowth}
 use Rattle.iox2_machine.specs.machine.Ports.{CreatePublisher, CreateSubscriber, FirstPublisherUpdate, with_new_publisher, with_new_subscriber, new_publisher, slots_for, publisher_closed, subscriber_shut, subscriber_closed}
 use Rattle.iox2_machine.specs.machine.Receives.{ReceiveResult, Receive}
 use Rattle.iox2_machine.specs.machine.Releases.{place_freed, unborrowed, subscriber_pruned, freed_if_unused, released}
@@ -65,7 +65,7 @@ changed_terms f i change keeps p x e =
 module _ {T U : Type 0} where
   -- a publisher with the same terms lends single values as before
   pub values_kept : (s s' : State T U) (x x' : Publisher) → s'.config ≡ s.config → x'.allocation_strategy ≡ x.allocation_strategy → x'.initial_max_slice_len ≡ x.initial_max_slice_len
-      → LendsValues s x → LendsValues s' x'
+      → LendsWithoutGrowth s x → LendsWithoutGrowth s' x'
   values_kept s s' x x' config allocation longest lends = λ grows single.
       subst (λ (n : ℕ). 1 ≤ n) (sym longest) (lends (sym (ap is_static allocation) ∙ grows) (sym (ap (λ (c : ServiceConfig). c.variant) config) ∙ single))
 
@@ -266,7 +266,7 @@ module _ {T U : Type 0} where
           stands = put_at-same s.publishers p _;
           slots = subst (λ (z : Publisher). worst_case s.config z.max_loaned_samples ≤ z.slots) (sym same) can.slots;
           few = omega (arith, length-append x.loans (s.next_message ∷ []), of_x);
-          values = subst (λ (z : Publisher). LendsValues s z) (sym same) can.values;
+          values = subst (λ (z : Publisher). LendsWithoutGrowth s z) (sym same) can.values;
         };
     longest = λ y at. (
       record x { loans = x.loans ++ s.next_message ∷ []; longest_granted = max x.longest_granted len; segments = segments },

@@ -7,7 +7,7 @@ use Rattle.iox2_machine.specs.machine.Records.{Publisher}
 use Rattle.iox2_machine.specs.machine.WellFormed.{BlockedIsWellFormed}
 use Rattle.iox2_connections.specs.Mailboxes.{sender_ends, subscriber_of_key}
 use Rattle.iox2_domain.specs.BlockedSends.{waiting_send}
-use Rattle.iox2_domain.specs.Fields.{Fields, kept_of, publisher_of, numbers_of, blocked_send}
+use Rattle.iox2_domain.specs.Fields.{Fields, kept_of, publisher_of, number_in_slot, blocked_send}
 use Rattle.iox2_domain.specs.Invariant.{IsDomain}
 use Rattle.iox2_domain.specs.Kept.{state_of}
 use Rattle.iox2_domain.specs.Ports.{PublisherFields}
@@ -29,7 +29,7 @@ module _ {T U : Type 0} (f : Fields T U) (sound : IsDomain f) (i : ℕ) (x : Pub
       let stands = publisher-stands f sound.parts i x at in
       let well : BlockedIsWellFormed (state_of (kept_of f)) x.id (publisher_of f.books f.connections x).port (waiting_send f x b) =
       (sound.well_formed.publishers x.id (publisher_of f.books f.connections x).port stands).blocked (waiting_send f x b)
-      (ap (option_map (blocked_send (numbers_of f.books x.id) (sender_ends f.connections x.keys))) waits) in
+      (ap (option_map (blocked_send (number_in_slot f.books x.id) (sender_ends f.connections x.keys))) waits) in
       (well.waits.0, ap (option_and_then (λ (z : Publisher). occupant z.ends (b.progress).place)) stands ∙ well.waits.1)
 
 module _ {T U : Type 0} (f now : Fields T U) (same : f ≡ now) (sound : IsDomain now) (i : ℕ) where

@@ -8,8 +8,8 @@ use Rattle.iox2_machine.specs.machine.State.{State, is_blocked}
 use Rattle.iox2_machine.specs.declared.errors.ConnectionFailure.{ConnectionFailure}
 use Rattle.iox2_machine.specs.declared.errors.SendError.TheVariants.{ConnectionError}
 use Rattle.iox2_connections.specs.declared.sender.DeliveryOutcome.{DeliveryOutcome}
-use Rattle.iox2_domain.specs.Connects.{UpdatesPublisher}
-use Rattle.iox2_domain.specs.Deliveries.{CanSend, SendsSlot, result_of_send}
+use Rattle.iox2_domain.specs.Connects.{UpdatesKeptPublisher}
+use Rattle.iox2_domain.specs.Deliveries.{CanSend, SendsSlot, result_of_delivery}
 use Rattle.iox2_domain.specs.Discards.{DiscardsLoan}
 use Rattle.iox2_domain.specs.Fields.{Fields, kept_of}
 use Rattle.iox2_domain.specs.Invariant.{IsDomain}
@@ -18,7 +18,7 @@ use Rattle.iox2_domain.specs.LoanCalls.{HoldsWritten}
 use Rattle.iox2_domain.specs.LoanSlots.{LiesInSlot}
 use Rattle.iox2_domain.specs.Ports.{PublisherFields}
 use Rattle.iox2_domain.specs.Reaches.{Reaches}
-use Rattle.iox2_domain.specs.SentLoans.{IsNotUpdated, IsReadyToSend, SendsLoan}
+use Rattle.iox2_domain.specs.SentLoans.{IsNotUpdated, IsReadyToSend, SendsKeptLoan}
 use Rattle.iox2_domain.proofs.lemmas.fields.ConnectionEnds.{free-of}
 use Rattle.iox2_domain.proofs.lemmas.fields.PlacesKept.{places-then}
 use Rattle.iox2_messages.specs.CatchingUp.{BehindClearing, CatchesUp}
@@ -37,7 +37,7 @@ module _ {T U : Type 0} (f middle : Fields T U) (reached : Reaches f middle (sta
   free-behind free = ap (λ (s : State T U). is_blocked s p) reached.state ∙ free
 
   -- and what is sent then, is sent by the whole
-  pub sends-behind : (environment : Environment) (new : Fields T U) (result : SendResult) → SendsLoan environment middle new n result → SendsLoan environment f new n result
+  pub sends-behind : (environment : Environment) (new : Fields T U) (result : SendResult) → SendsKeptLoan environment middle new n result → SendsKeptLoan environment f new n result
   sends-behind environment new result sent = record {
     loan = sent.loan;
     out = ap (λ (s : State T U). s.loans n) (sym reached.state) ∙ sent.out;
@@ -68,8 +68,8 @@ module _ {T U : Type 0} (environment : Environment) (f : Fields T U) (p n : ℕ)
     unblocked : (found.0).blocked ≡ None
     unblocked = free-of f sound.parts p place found.0 found.1 found.2 free
 
-    updates : (reason : Option ConnectionFailure) → failure ≡ reason → UpdatesPublisher environment middle place found.0 g reason
-    updates reason is = subst (UpdatesPublisher environment middle place found.0 g) is caught.updates
+    updates : (reason : Option ConnectionFailure) → failure ≡ reason → UpdatesKeptPublisher environment middle place found.0 g reason
+    updates reason is = subst (UpdatesKeptPublisher environment middle place found.0 g) is caught.updates
 
     -- but for the update
     pub caught-failed : (reason : ConnectionFailure) → failure ≡ Some reason → BehindClearing f (λ middle. IsNotUpdated environment middle g p place reason)
@@ -118,9 +118,9 @@ module _ {T U : Type 0} (environment : Environment) (f : Fields T U) (p n : ℕ)
     )
 
     pub ready-sends : (outcome : DeliveryOutcome) (new : Fields T U) → ((x : PublisherFields) → slice_index_or g.publishers place None ≡ Some x → SendsSlot environment g place x slot outcome new)
-        → SendsLoan environment f new n (result_of_send outcome)
+        → SendsKeptLoan environment f new n (result_of_delivery outcome)
     ready-sends outcome new sends =
-        sends-behind f before (ready.1) p n environment new (result_of_send outcome)
+        sends-behind f before (ready.1) p n environment new (result_of_delivery outcome)
         (sends-loan environment before (ready.1).agrees p n place still-out (r.publisher, r.stands, r.is_its) waits_not g r.updated r.key slot r.lies outcome new sends)
 
   -- ---- or gives the loan back, where its connections couldn't be updated
@@ -135,7 +135,7 @@ module _ {T U : Type 0} (environment : Environment) (f : Fields T U) (p n : ℕ)
     pub unmet-holds : HoldsLoan (state_of (kept_of g)) p n
     unmet-holds = failed-holds environment fails.0 (fails.1).agrees p n at_failure place failure g (fails.2)
 
-    pub unmet-sends : (new : Fields T U) → DiscardsLoan g new n → SendsLoan environment f new n (Send_error (ConnectionError failure))
+    pub unmet-sends : (new : Fields T U) → DiscardsLoan g new n → SendsKeptLoan environment f new n (Send_error (ConnectionError failure))
     unmet-sends new discards =
         sends-behind f fails.0 (fails.1) p n environment new (Send_error (ConnectionError failure))
         (failed-sends environment fails.0 (fails.1).agrees p n at_failure place failure g (fails.2) new discards)

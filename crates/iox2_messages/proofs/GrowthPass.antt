@@ -7,7 +7,7 @@ use Rattle.std.specs.List.{All}
 use Rattle.slab.specs.Slab.{get, with_value}
 use Rattle.iox2_contents.specs.SlotContents.{ContentState, lists_for}
 use Rattle.iox2_slots.specs.SlotBook.{Book, holders_at, with_more_slots}
-use Rattle.iox2_messages.specs.OlderSlots.{ClearsOlder, GivesUp}
+use Rattle.iox2_messages.specs.OlderSlots.{ClearsOlder, LetsGoOfOlder}
 use Rattle.iox2_machine.specs.SingleValues.{is_single_valued}
 use Rattle.iox2_machine.specs.machine.Limits.{segment_fits, segment_limit}
 use Rattle.iox2_domain.specs.Fields.{Fields, publisher_of}
@@ -144,7 +144,7 @@ module _ {T U : Type 0} (before f : Fields T U) (same : f ≡ before) (agrees : 
   pub gave-up : (x0 : PublisherFields) → get_or before.publishers i None ≡ Some x0 → (book : Book) (cs left : List (ContentState T U)) (slots : List ℕ)
       → get f.books x.book ≡ Some book → (o : Option (List (ContentState T U))) → o ≡ get_or f.contents x.book o → o ≡ Some cs
       → All (λ slot. (slot < length book.holders) × (holders_at book slot ≡ 0)) slots → ((b : Book) → All (λ slot. holders_at b slot ≡ 0) slots → ClearsUnused b x.segment_start cs left)
-      → GivesUp slots x.segment_start left
+      → LetsGoOfOlder slots x.segment_start left
       → ClearsOlder before x0 (record f { contents = slice_set f.contents x.book (Some left); publishers = slice_set f.publishers i (Some x) })
   gave-up x0 at0 book cs left slots its o read there free clears given_up =
       subst (λ (y : PublisherFields). ClearsOlder before y new) (is-given x0 at0) (subst (λ (h : Fields T U). ClearsOlder h x new) same here)

@@ -11,7 +11,7 @@ use Rattle.iox2_machine.specs.machine.Mailbox.{Mailbox, is_borrowed}
 use Rattle.iox2_machine.specs.machine.Numbers.{IsOnce}
 use Rattle.iox2_machine.specs.machine.Releases.{released}
 use Rattle.iox2_slots.specs.SlotBook.{Book}
-use Rattle.iox2_domain.specs.Fields.{Fields, kept_of, numbers_of}
+use Rattle.iox2_domain.specs.Fields.{Fields, kept_of, number_in_slot}
 use Rattle.iox2_domain.specs.Invariant.{IsDomain}
 use Rattle.iox2_domain.specs.Kept.{state_of}
 use Rattle.iox2_domain.specs.Reaches.{Reaches}
@@ -32,9 +32,9 @@ module _ {T U : Type 0} (f v : Fields T U) (view : v ≡ f) (sound : IsDomain f)
     -- no slot is borrowed there twice
     pub once-there : IsOnce c.borrowed
     once-there =
-        IsOnce-map (numbers_of f.books c.home.publisher) c.borrowed
+        IsOnce-map (number_in_slot f.books c.home.publisher) c.borrowed
         (subst (λ (box : Mailbox). IsOnce box.borrowed)
-        (mailboxes-are f c.home.publisher c.home.subscriber ∙ mailbox-there (numbers_of f.books) f.connections key c.home.publisher c.home.subscriber c sound.parts.apart stands refl refl)
+        (mailboxes-are f c.home.publisher c.home.subscriber ∙ mailbox-there (number_in_slot f.books) f.connections key c.home.publisher c.home.subscriber c sound.parts.apart stands refl refl)
         (once-borrowed ((state_of (kept_of f)).mailboxes c.home.publisher c.home.subscriber) (sound.well_formed.mailboxes c.home.publisher c.home.subscriber).within.once))
 
     -- and all are slots of its book

@@ -13,8 +13,8 @@ use Rattle.iox2_connections.specs.declared.sender.Progress.{Progress}
 use Rattle.iox2_connections.specs.declared.sender.DeliveryOutcome.{DeliveryOutcome}
 use Rattle.iox2_connections.specs.Receivers.{HasReclaimed}
 use Rattle.iox2_domain.specs.BlockedSends.{GoesOn}
-use Rattle.iox2_domain.specs.ConnectionSends.{begun_at, begun_delivery, with_begun, SendsLoanTo}
-use Rattle.iox2_domain.specs.Deliveries.{result_of_send}
+use Rattle.iox2_domain.specs.ConnectionSends.{begun_at, begun_delivery, with_begun, SendsKeptLoanTo}
+use Rattle.iox2_domain.specs.Deliveries.{result_of_delivery}
 use Rattle.iox2_domain.specs.Fields.{Fields, kept_of}
 use Rattle.iox2_domain.specs.Invariant.{IsDomain}
 use Rattle.iox2_domain.specs.Kept.{Lent_message, state_of}
@@ -99,7 +99,7 @@ module _ {T U : Type 0} (f : Fields T U) (sound : IsDomain f) (p n place : ℕ) 
 
       pub sends-there : (environment : Environment) (start : Progress) → start ≡ begun_at connection → (outcome : DeliveryOutcome) (f3 : Fields T U)
           → ((may : CanTakeUp f2 place start) → GoesOn environment f2 place may.publisher may.delivery start no_time outcome f3)
-          → SendsLoanTo environment f f3 n channel connection (result_of_send outcome)
+          → SendsKeptLoanTo environment f f3 n channel connection (result_of_delivery outcome)
       sends-there environment start from outcome f3 goes =
           begun-sends f sound place x found.1 slot n holds.0 lies holds.3 unblocked channel connection known link linked at.book stands environment f2
           (subst (λ (h : Fields T U). Reaches h f2 (state_of (kept_of h))) is reaches) stands2

@@ -8,7 +8,7 @@ use Rattle.iox2_machine.specs.machine.Limits.{channel_count}
 use Rattle.iox2_connections.specs.Mailboxes.{sender_ends}
 use Rattle.iox2_connections.specs.Receivers.{HaveChannel}
 use Rattle.iox2_domain.specs.BlockedSends.{waiting_send}
-use Rattle.iox2_domain.specs.Fields.{Fields, numbers_of, publisher_of, blocked_send}
+use Rattle.iox2_domain.specs.Fields.{Fields, number_in_slot, publisher_of, blocked_send}
 use Rattle.iox2_domain.specs.Invariant.{IsDomain}
 use Rattle.iox2_domain.specs.Ports.{PublisherFields}
 use Rattle.iox2_domain.specs.declared.publisher_state.BlockedDelivery.{BlockedDelivery}
@@ -23,4 +23,4 @@ pub have-blocked-channel : {T U : Type 0} (f : Fields T U) (sound : IsDomain f) 
 have-blocked-channel f sound i x here w waits = record { at = λ key c at some. omega (arith, known, sound.parts.linked.channel_counts key c at) } where
   known : w.channel < channel_count f.config
   known = ((sound.well_formed.publishers x.id (publisher_of f.books f.connections x).port (publisher-stands f sound.parts i x here)).blocked (waiting_send f x w)
-      (ap (option_map (blocked_send (numbers_of f.books x.id) (sender_ends f.connections x.keys))) waits)).channel
+      (ap (option_map (blocked_send (number_in_slot f.books x.id) (sender_ends f.connections x.keys))) waits)).channel

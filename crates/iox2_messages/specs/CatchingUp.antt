@@ -3,7 +3,7 @@ use Rattle.std.specs.Prelude.{◌≡◌, ℕ}
 use Rattle.std.specs.declared.option.Option.{Option}
 use Rattle.iox2_machine.specs.machine.Records.{Environment}
 use Rattle.iox2_machine.specs.declared.errors.ConnectionFailure.{ConnectionFailure}
-use Rattle.iox2_domain.specs.Connects.{UpdatesPublisher}
+use Rattle.iox2_domain.specs.Connects.{UpdatesKeptPublisher}
 use Rattle.iox2_domain.specs.Fields.{Fields, kept_of}
 use Rattle.iox2_domain.specs.Kept.{state_of}
 use Rattle.iox2_domain.specs.Ports.{PublisherFields}
@@ -19,4 +19,4 @@ pub record CatchesUp {T U : Type 0} (environment : Environment) (old : Fields T 
   pub middle : Fields T U
   pub reaches : Reaches old middle (state_of (kept_of old))
   pub same : middle.publishers ≡ old.publishers
-  pub updates : UpdatesPublisher environment middle place x new failure
+  pub updates : UpdatesKeptPublisher environment middle place x new failure

@@ -15,8 +15,8 @@ module _ {T U : Type 0} where
   IsGivenUp content = (content.cells ≡ []) × (content.is_in_place ≡ false → content.room ≡ 0)
 
   -- What lay in those of these slots that are before `start` is given up.
-  abbrev pub GivesUp : (slots : List ℕ) (start : ℕ) → List (ContentState T U) → Type 0
-  GivesUp slots start contents = All (λ slot. slot < start → SomeAt contents slot IsGivenUp) slots
+  abbrev pub LetsGoOfOlder : (slots : List ℕ) (start : ℕ) → List (ContentState T U) → Type 0
+  LetsGoOfOlder slots start contents = All (λ slot. slot < start → SomeAt contents slot IsGivenUp) slots
 
   -- What lay in some older slots of the publisher that nobody holds is given up. What lies in the others stays, and nothing else
   -- changes.
@@ -29,5 +29,5 @@ module _ {T U : Type 0} where
     pub unused : All (λ slot. holders_at book slot ≡ 0) slots
     pub left : List (ContentState T U)
     pub clears : ClearsUnused book x.segment_start contents left
-    pub given_up : GivesUp slots x.segment_start left
+    pub given_up : LetsGoOfOlder slots x.segment_start left
     pub is : f' ≡ record f { contents = slice_set f.contents x.book (Some left) }

@@ -6,7 +6,7 @@ ghost use Rattle.iox2_slots.specs.SlotBook.{Book};
 ghost use Rattle.iox2_machine.specs.machine.Limits.{channel_count};
 ghost use Rattle.iox2_machine.specs.machine.State.{is_blocked};
 ghost use Rattle.iox2_domain.specs.Boxes.{answers_of};
-ghost use Rattle.iox2_domain.specs.ConnectionSends.{begun_at, begun_delivery, with_begun, SendsLoanTo};
+ghost use Rattle.iox2_domain.specs.ConnectionSends.{begun_at, begun_delivery, with_begun, SendsKeptLoanTo};
 ghost use Rattle.iox2_domain.specs.Fields.{kept_of};
 ghost use Rattle.iox2_domain.specs.Invariant.{IsDomain};
 ghost use Rattle.iox2_domain.specs.Kept.{state_of};
@@ -96,7 +96,7 @@ pub fn send_to_connection<T: Drop, U: Default + Drop, F: BackpressureFn, G: Degr
     requires live { HoldsWritten (state_of (kept_of state.old)) loan.publisher loan.number }
     requires unblocked { is_blocked (state_of (kept_of state.old)) loan.publisher ≡ false }
     requires channel { channel < channel_count state.old.config }
-    ensures { SendsLoanTo (answers_of F.allows G.allows (boxes.now).boxes) state.old state.new loan.number channel connection (end_result result) }
+    ensures { SendsKeptLoanTo (answers_of F.allows G.allows (boxes.now).boxes) state.old state.new loan.number channel connection (end_result result) }
 {
     let Some(place) = state.find_publisher(loan.publisher, loan.place) else {
         discard_loan(state, loan);

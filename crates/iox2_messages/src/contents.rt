@@ -6,8 +6,8 @@ ghost use Rattle.iox2_slots.specs.SlotBook.{Book};
 ghost use Rattle.iox2_contents.specs.SlotContents.{cells_at, values_at, first_cell_at, first_value_at, user_header_at};
 ghost use Rattle.iox2_slots.specs.declared.slots.mark.SlotMark.TheVariants.{Written};
 ghost use Rattle.iox2_domain.specs.Fields.{contents_at};
-ghost use Rattle.iox2_domain.specs.LoanCalls.{HasContents, HasContentIn, with_mark};
-ghost use Rattle.iox2_domain.specs.LoanLends.{LendsSome, LendsContents, LendsCell, LendsCells, LendsValue, LendsValues, LendsUserHeader};
+ghost use Rattle.iox2_domain.specs.LoanCalls.{HasContents, HasContentIn, with_slot_mark};
+ghost use Rattle.iox2_domain.specs.LoanLends.{LendsSome, LendsContents, StateLendsCell, StateLendsCells, StateLendsValue, StateLendsValues, StateLendsUserHeader};
 
 use iox2_contents::Contents;
 use iox2_domain::{DomainState, MessageSlot};
@@ -20,7 +20,7 @@ pub(crate) fn mark_written<T: Drop, U: Default + Drop>(
     slot: usize,
 )
     requires { (book : Book) × (get state.old.books key ≡ Some book) × (slot < length book.holders) }
-    ensures { (book : Book) → get state.old.books key ≡ Some book → state.new ≡ with_mark state.old key slot book Written }
+    ensures { (book : Book) → get state.old.books key ≡ Some book → state.new ≡ with_slot_mark state.old key slot book Written }
 {
     state.books[key].set_mark(slot, SlotMark::Written);
 }
@@ -57,7 +57,7 @@ pub fn cell_at_mut<T: Drop, U: Default + Drop>(
     at: MessageSlot,
 ) -> &mut Option<T>
     requires { HasContentIn state.old at.book at.slot (λ content. 0 < length content.cells) }
-    ensures* writes_back { sem 𝓛 (LendsCell T.row U.row state.entry at.book at.slot result) }
+    ensures* writes_back { sem 𝓛 (StateLendsCell T.row U.row state.entry at.book at.slot result) }
     ensures value { first_cell_at (contents_at state.old.contents at.book) at.slot ≡ Some result.now }
 {
     contents_mut(state, at.book).cell_mut(at.slot)
@@ -69,7 +69,7 @@ pub fn value_at_mut<T: Drop, U: Default + Drop>(
     at: MessageSlot,
 ) -> &mut T
     requires { HasContentIn state.old at.book at.slot (λ content. 0 < length content.values) }
-    ensures* writes_back { sem 𝓛 (LendsValue T.row U.row state.entry at.book at.slot result) }
+    ensures* writes_back { sem 𝓛 (StateLendsValue T.row U.row state.entry at.book at.slot result) }
     ensures value { first_value_at (contents_at state.old.contents at.book) at.slot ≡ Some result.now }
 {
     contents_mut(state, at.book).value_mut(at.slot)
@@ -81,7 +81,7 @@ pub fn cells_at_mut<T: Drop, U: Default + Drop>(
     at: MessageSlot,
 ) -> &mut [Option<T>]
     requires { HasContentIn state.old at.book at.slot (λ content. 0 < content.lists) }
-    ensures* writes_back { sem 𝓛 (LendsCells T.row U.row state.entry at.book at.slot result) }
+    ensures* writes_back { sem 𝓛 (StateLendsCells T.row U.row state.entry at.book at.slot result) }
     ensures value { cells_at (contents_at state.old.contents at.book) at.slot ≡ Some result.now }
 {
     contents_mut(state, at.book).cells_mut(at.slot)
@@ -93,7 +93,7 @@ pub fn values_at_mut<T: Drop, U: Default + Drop>(
     at: MessageSlot,
 ) -> &mut [T]
     requires { HasContentIn state.old at.book at.slot (λ content. content.is_in_place ≡ false) }
-    ensures* writes_back { sem 𝓛 (LendsValues T.row U.row state.entry at.book at.slot result) }
+    ensures* writes_back { sem 𝓛 (StateLendsValues T.row U.row state.entry at.book at.slot result) }
     ensures value { values_at (contents_at state.old.contents at.book) at.slot ≡ Some result.now }
 {
     contents_mut(state, at.book).values_mut(at.slot)
@@ -105,7 +105,7 @@ pub fn user_header_at_mut<T: Drop, U: Default + Drop>(
     at: MessageSlot,
 ) -> &mut U
     requires { HasContentIn state.old at.book at.slot (λ content. content ≡ content) }
-    ensures* writes_back { sem 𝓛 (LendsUserHeader T.row U.row state.entry at.book at.slot result) }
+    ensures* writes_back { sem 𝓛 (StateLendsUserHeader T.row U.row state.entry at.book at.slot result) }
     ensures value { user_header_at (contents_at state.old.contents at.book) at.slot ≡ Some result.now }
 {
     contents_mut(state, at.book).user_header_mut(at.slot)

@@ -8,7 +8,7 @@ ghost use Rattle.iox2_domain.specs.Invariant.{IsDomain};
 ghost use Rattle.iox2_domain.specs.Kept.{state_of};
 ghost use Rattle.iox2_domain.specs.Ports.{PublisherFields};
 ghost use Rattle.iox2_domain.specs.Reaches.{Reaches};
-ghost use Rattle.iox2_messages.specs.OlderSlots.{ClearsOlder, GivesUp};
+ghost use Rattle.iox2_messages.specs.OlderSlots.{ClearsOlder, LetsGoOfOlder};
 
 use iox2_contents::Contents;
 use iox2_domain::{DomainState, PublisherState};
@@ -105,7 +105,7 @@ fn clear_before<T: Drop, U: Default + Drop>(
 ) -> usize
     requires { All (λ slot. slot < length contents.old) slots.now }
     ensures clears { (b : Book) → All (λ slot. holders_at b slot ≡ 0) slots.now → ClearsUnused b start contents.old contents.new }
-    ensures given_up { GivesUp slots.now start contents.new }
+    ensures given_up { LetsGoOfOlder slots.now start contents.new }
     ensures count { result ≤ length slots.now }
 {
     let mut cleared = 0;

@@ -7,7 +7,7 @@ ghost use Rattle.iox2_machine.specs.machine.Releases.{released, subscriber_prune
 ghost use Rattle.iox2_machine.specs.machine.SingleCalls.{HoldsSample};
 ghost use Rattle.iox2_domain.specs.Ports.{SubscriberFields};
 ghost use Rattle.iox2_domain.specs.Kept.{state_of};
-ghost use Rattle.iox2_domain.specs.Fields.{kept_of, numbers_of};
+ghost use Rattle.iox2_domain.specs.Fields.{kept_of, number_in_slot};
 ghost use Rattle.iox2_domain.specs.Invariant.{IsDomain};
 ghost use Rattle.iox2_domain.specs.Reaches.{Reaches};
 ghost use Rattle.iox2_domain.specs.Midway.{IsMidway};
@@ -126,7 +126,7 @@ fn release_borrowed_slot<T: Drop, U: Default + Drop>(
 )
     requires agrees { IsDomain state.old }
     requires borrowed { IsSomeAnd (get state.old.connections at.connection) (λ c. (c.home ≡ home) × Contains c.borrowed at.slot) }
-    ensures midway { IsMidway state.old state.new (subscriber_pruned (unborrowed (state_of (kept_of state.old)) home.publisher home.subscriber (numbers_of state.old.books home.publisher at.slot)) home.subscriber) home.book }
+    ensures midway { IsMidway state.old state.new (subscriber_pruned (unborrowed (state_of (kept_of state.old)) home.publisher home.subscriber (number_in_slot state.old.books home.publisher at.slot)) home.subscriber) home.book }
     ensures stands { (y : SubscriberFields) × (slice_index_or state.new.subscribers home.subscriber_place None ≡ Some y) × (y.id ≡ home.subscriber) }
 {
     if stands_at(&state.publishers, home.publisher_place, home.publisher) {

@@ -1,6 +1,6 @@
 //! How a send ended.
 ghost use Rattle.std.specs.Prelude.{◌≡◌};
-ghost use Rattle.iox2_domain.specs.Deliveries.{result_of_send};
+ghost use Rattle.iox2_domain.specs.Deliveries.{result_of_delivery};
 ghost use Rattle.iox2_messages.specs.SendEnds.{IsKept, end_result};
 
 use iox2_connections::sender::DeliveryOutcome;
@@ -26,7 +26,7 @@ impl SendEnd {
     /// How a send with this outcome of its delivery ended.
     #[inline(always)]
     pub(crate) fn of(outcome: DeliveryOutcome) -> SendEnd
-        ensures same { end_result result ≡ result_of_send outcome }
+        ensures same { end_result result ≡ result_of_delivery outcome }
         ensures kept { IsKept result }
     {
         match outcome {

@@ -8,7 +8,7 @@ ghost use Rattle.iox2_domain.specs.Fields.{kept_of};
 ghost use Rattle.iox2_domain.specs.Invariant.{IsDomain};
 ghost use Rattle.iox2_domain.specs.LoanCalls.{HoldsWritten};
 ghost use Rattle.iox2_domain.specs.LoanSlots.{LiesInSlot};
-ghost use Rattle.iox2_domain.specs.SentLoans.{IsLeftLoan, IsNotUpdated, IsReadyToSend, SendsLoan};
+ghost use Rattle.iox2_domain.specs.SentLoans.{IsLeftLoan, IsNotUpdated, IsReadyToSend, SendsKeptLoan};
 ghost use Rattle.iox2_machine.specs.machine.State.{is_blocked};
 ghost use Rattle.iox2_messages.specs.CatchingUp.{BehindClearing};
 ghost use Rattle.iox2_messages.specs.SendEnds.{IsNotLost, end_result};
@@ -94,7 +94,7 @@ fn catch_up_and_send<T: Drop, U: Default + Drop, F: BackpressureFn, G: Degradati
     requires agrees { IsDomain state.old }
     requires live { HoldsWritten (state_of (kept_of state.old)) publisher number }
     requires unblocked { is_blocked (state_of (kept_of state.old)) publisher ≡ false }
-    ensures sends { SendsLoan (answers_of F.allows G.allows (boxes.now).boxes) state.old state.new number (end_result result) }
+    ensures sends { SendsKeptLoan (answers_of F.allows G.allows (boxes.now).boxes) state.old state.new number (end_result result) }
     ensures kept { HoldsPublisher (state_of (kept_of state.old)) publisher → IsNotLost result }
 {
     match catch_up_and_find(state, boxes, publisher, number) {
@@ -139,7 +139,7 @@ fn send_unready<T: Drop, U: Default + Drop, F: BackpressureFn, G: DegradationFn>
     requires agrees { IsDomain state.old }
     requires live { HoldsWritten (state_of (kept_of state.old)) publisher number }
     requires unblocked { is_blocked (state_of (kept_of state.old)) publisher ≡ false }
-    ensures sends { SendsLoan (answers_of F.allows G.allows (boxes.now).boxes) state.old state.new number (end_result result) }
+    ensures sends { SendsKeptLoan (answers_of F.allows G.allows (boxes.now).boxes) state.old state.new number (end_result result) }
     ensures kept { HoldsPublisher (state_of (kept_of state.old)) publisher → IsNotLost result }
 {
     catch_up_and_send(state, boxes, publisher, number)
@@ -170,7 +170,7 @@ pub fn send<
     requires lies { LiesInSlot state.old loan.publisher loan.number loan.book loan.slot }
     requires unblocked { is_blocked (state_of (kept_of state.old)) loan.publisher ≡ false }
     requires callable { C.IsAlwaysCallable outcome }
-    ensures { (end : SendEnd) × SendsLoan (answers_of F.allows G.allows (boxes.now).boxes) state.old state.new loan.number (end_result end)
+    ensures { (end : SendEnd) × SendsKeptLoan (answers_of F.allows G.allows (boxes.now).boxes) state.old state.new loan.number (end_result end)
         × (HoldsPublisher (state_of (kept_of state.old)) loan.publisher → IsNotLost end) × C.post outcome end result }
 {
     if is_ready(state, &loan) && !has_handler_at(state, loan.place) {

@@ -12,7 +12,7 @@ ghost use Rattle.iox2_domain.specs.OpenMarks.{IsUnmarkedReceiver};
 ghost use Rattle.iox2_domain.specs.Reaches.{Reaches};
 ghost use Rattle.iox2_domain.specs.Updates.{changed_at};
 ghost use Rattle.iox2_steps.specs.Agreement.{HasOwnedParts};
-ghost use Rattle.iox2_steps.specs.Closes.{shut_subscriber, HasNoPublisher, IsBusy, IsStanding, LosesWaiting, LosesIfLeft};
+ghost use Rattle.iox2_steps.specs.Closes.{shut_subscriber, HasNoPublisher, IsBusy, IsStanding, ConnectionLosesWaiting, LosesIfLeft};
 
 use iox2_connections::drops::drop_waiting_at;
 use iox2_domain::{DomainState, SubscriberState, key_at, make_all_due, stands_at};
@@ -75,7 +75,7 @@ fn is_left<T: Drop, U: Default + Drop>(state: &DomainState<T, U>, key: usize) ->
 fn drop_waiting<T: Drop, U: Default + Drop>(state: &mut DomainState<T, U>, key: usize)
     requires parts { HasOwnedParts state.old }
     requires departed { IsSomeAnd (get state.old.connections key) (HasNoPublisher state.old.publishers) }
-    ensures { (c : Link) → get state.old.connections key ≡ Some c → LosesWaiting state.old key c state.new }
+    ensures { (c : Link) → get state.old.connections key ≡ Some c → ConnectionLosesWaiting state.old key c state.new }
 {
     let book = state.connections[key].home().book;
     drop_waiting_at(&mut state.connections, key, &mut state.books[book]);

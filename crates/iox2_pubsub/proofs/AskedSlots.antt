@@ -9,7 +9,7 @@ use Rattle.iox2_machine.specs.machine.Records.{Environment, PublisherSettings}
 use Rattle.iox2_machine.specs.machine.State.{State}
 use Rattle.iox2_machine.specs.declared.errors.PublisherCreateError.{PublisherCreateError}
 use Rattle.iox2_machine.specs.declared.errors.PublisherCreateError.TheVariants.{UnableToCreatePortTag, ExceedsMaxSupportedPublishers, UnableToCreateDataSegment}
-use Rattle.iox2_pubsub.specs.Factories.{AsksFor, with_slots}
+use Rattle.iox2_pubsub.specs.Factories.{AsksForSlots, with_slots}
 
 both : (b : Bool) → (b ≡ true) ⊎ (b ≡ false)
 both true = inl refl
@@ -43,7 +43,7 @@ module _ {T U : Type 0} (environment : Environment) (s : State T U) (given : Pub
       unfit h
 
   -- what is asked for is the number, or the worst case doesn't fit
-  asked-for : (refusal : Option PublisherCreateError) (slots : ℕ) (asked : Option ℕ) → AsksFor (λ worst n. n ≡ slots) (worst_case s.config given.max_loaned_samples) asked
+  asked-for : (refusal : Option PublisherCreateError) (slots : ℕ) (asked : Option ℕ) → AsksForSlots (λ worst n. n ≡ slots) (worst_case s.config given.max_loaned_samples) asked
       → Creates asked refusal → Creates (Some slots) refusal
   asked-for refusal slots asked asks h = elim (both (fits (worst_case s.config given.max_loaned_samples))) [
     | inl fit ↦
@@ -52,7 +52,7 @@ module _ {T U : Type 0} (environment : Environment) (s : State T U) (given : Pub
     | inr unfit ↦ unfit-asked refusal asked (Some slots) unfit h
   ]
 
-  pub asked-result : {A : Type 0} (id : A → ℕ) (result : Result A PublisherCreateError) (slots : ℕ) (asked : Option ℕ) → AsksFor (λ worst n. n ≡ slots) (worst_case s.config given.max_loaned_samples) asked
+  pub asked-result : {A : Type 0} (id : A → ℕ) (result : Result A PublisherCreateError) (slots : ℕ) (asked : Option ℕ) → AsksForSlots (λ worst n. n ≡ slots) (worst_case s.config given.max_loaned_samples) asked
       → MatchResult result (λ a. (id a ≡ s.next_port) × Creates asked None) (λ e. Creates asked (Some e)) → MatchResult result (λ a. (id a ≡ s.next_port) × Creates (Some slots) None) (λ e. Creates (Some slots) (Some e))
   asked-result id (Ok a) slots asked asks h = (h.0, asked-for None slots asked asks h.1)
   asked-result id (Err e) slots asked asks h = asked-for (Some e) slots asked asks h

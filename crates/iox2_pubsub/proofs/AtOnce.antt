@@ -8,7 +8,7 @@ use Rattle.iox2_machine.specs.declared.allocation.AllocationStrategy.TheVariants
 use Rattle.iox2_machine.specs.declared.key.Key.{Key}
 use Rattle.iox2_connections.specs.Mailboxes.{sender_ends}
 use Rattle.iox2_domain.specs.Boxes.{DomainBoxes}
-use Rattle.iox2_domain.specs.Fields.{Fields, blocked_send, keeping, kept_of, numbers_of, publisher_of, subscriber_of}
+use Rattle.iox2_domain.specs.Fields.{Fields, blocked_send, keeping, kept_of, number_in_slot, publisher_of, subscriber_of}
 use Rattle.iox2_domain.specs.Invariant.{IsDomain}
 use Rattle.iox2_domain.specs.Kept.{Kept, state_of}
 use Rattle.iox2_domain.specs.Ports.{PublisherFields, SubscriberFields}
@@ -42,7 +42,7 @@ module _ {T U F G : Type 0} {boxes : DomainBoxes F G} (f : Fields T U) (sound : 
         subst (λ (k : Kept T U F G). IsUnblocked k key) view (unblocked-free (keeping boxes f) key (
           ((sound.well_formed).publishers key.port _ there).is_known,
           λ z here. ap (λ (y : Publisher). y.blocked) (same_Some z ((publisher_of f.books f.connections x).port) (sym here ∙ there))
-              ∙ none-waits (blocked_send (numbers_of f.books x.id) (sender_ends f.connections x.keys)) x.blocked free,
+              ∙ none-waits (blocked_send (number_in_slot f.books x.id) (sender_ends f.connections x.keys)) x.blocked free,
         ))
 
     pub static-there : x.allocation ≡ Static → (publisher : PublisherHandle) → publisher.id ≡ p → GrowsBy kept publisher Static

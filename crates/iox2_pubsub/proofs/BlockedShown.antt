@@ -18,7 +18,7 @@ use Rattle.iox2_laws.proofs.Waits.{Waits, retry_waits, give_up_waits}
 use Rattle.iox2_domain.specs.BlockedSends.{HasBlocked, waiting_send}
 use Rattle.iox2_domain.specs.declared.publisher_state.BlockedDelivery.{BlockedDelivery}
 use Rattle.iox2_domain.specs.Boxes.{DomainBoxes}
-use Rattle.iox2_domain.specs.Fields.{Fields, kept_of, publisher_of, numbers_of, blocked_send, keeping}
+use Rattle.iox2_domain.specs.Fields.{Fields, kept_of, publisher_of, number_in_slot, blocked_send, keeping}
 use Rattle.iox2_domain.specs.Invariant.{IsDomain}
 use Rattle.iox2_domain.specs.Kept.{Kept, state_of, entries_of}
 use Rattle.iox2_domain.specs.Ports.{PublisherFields}
@@ -50,10 +50,10 @@ module _ {T U : Type 0} (f : Fields T U) (sound : IsDomain f) (i p n : ℕ) (fou
   pub some-waits : (d : BlockedDelivery) × ((found.0).blocked ≡ Some d) × (waiting_send f found.0 d ≡ held.1)
   some-waits = by (found.0).blocked refl where
     by : (o : Option BlockedDelivery) → (found.0).blocked ≡ o → (d : BlockedDelivery) × ((found.0).blocked ≡ Some d) × (waiting_send f found.0 d ≡ held.1)
-    by None e = absurd (let no : None ≡ Some held.1 = sym (ap (option_map (blocked_send (numbers_of f.books (found.0).id) (sender_ends f.connections (found.0).keys))) e) ∙ sym (ap (λ (x : Publisher). x.blocked) same-port) ∙ held.3 in cc)
+    by None e = absurd (let no : None ≡ Some held.1 = sym (ap (option_map (blocked_send (number_in_slot f.books (found.0).id) (sender_ends f.connections (found.0).keys))) e) ∙ sym (ap (λ (x : Publisher). x.blocked) same-port) ∙ held.3 in cc)
     by (Some d) e =
         let both : Some (waiting_send f found.0 d) ≡ Some held.1 =
-        sym (ap (option_map (blocked_send (numbers_of f.books (found.0).id) (sender_ends f.connections (found.0).keys))) e) ∙ sym (ap (λ (x : Publisher). x.blocked) same-port) ∙ held.3 in
+        sym (ap (option_map (blocked_send (number_in_slot f.books (found.0).id) (sender_ends f.connections (found.0).keys))) e) ∙ sym (ap (λ (x : Publisher). x.blocked) same-port) ∙ held.3 in
         (d, e, cc)
 
   -- so a delivery of it is blocked

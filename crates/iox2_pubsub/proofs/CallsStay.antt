@@ -12,7 +12,7 @@ use Rattle.iox2_machine.specs.machine.Releases.{released}
 use Rattle.iox2_machine.specs.machine.SingleCalls.{HoldsLoan, HoldsPublisher, HoldsSample, HoldsSubscriber}
 use Rattle.iox2_machine.specs.machine.Sends.{SendResult, Delivered_to, Blocked_send, Send_error, Send}
 use Rattle.iox2_machine.specs.declared.errors.SendError.{SendError}
-use Rattle.iox2_pubsub.specs.SendCalls.{Sends, messages_after, spent_by_send}
+use Rattle.iox2_pubsub.specs.SendCalls.{Sends, messages_after_send, spent_by_send}
 use Rattle.iox2_pubsub.specs.declared.send_outcome.SendOutcome.{SendOutcome}
 use Rattle.iox2_pubsub.specs.declared.send_outcome.SendOutcome.TheVariants.{Delivered, Blocked}
 use Rattle.iox2_machine.specs.Stored.{In_mailbox}
@@ -243,7 +243,7 @@ module _ {T U F G : Type 0} (old new : Kept T U F G) (m : Messages T U) (s : Sta
 
   -- a send that may fail, or be blocked
   pub sent-stays : (environment : Environment) (loan : SampleMut) (l : Loan T U) → s.loans loan.loan.number ≡ Some l → l.publisher ≡ loan.loan.publisher → ((x : Publisher) → s.publishers l.publisher ≡ Some x → x.blocked ≡ None)
-      → (result : Result SendOutcome SendError) (s' : State T U) → Shows new (messages_after m loan.loan.number l result) s'
+      → (result : Result SendOutcome SendError) (s' : State T U) → Shows new (messages_after_send m loan.loan.number l result) s'
       → Sends environment s loan.loan.number l result s' → BoxesStayBut (spent_by_send loan result) old new → StaysBut (spent_by_send loan result) old new
   sent-stays environment loan l out its free (Ok (Delivered count)) s' shown' h boxes =
       sent-keeps environment loan.loan.number l out (Delivered_to count) s' h (A_sent_loan loan.loan.number loan.loan.publisher false) boxes (λ k other. other)

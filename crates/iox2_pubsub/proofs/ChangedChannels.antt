@@ -16,7 +16,7 @@ use Rattle.iox2_domain.specs.Kept.{Kept, state_of}
 use Rattle.iox2_domain.specs.Reaches.{Reaches}
 use Rattle.iox2_domain.specs.Shows.{Shows}
 use Rattle.iox2_domain.proofs.lemmas.fields.ReachesShows.{reaches-shows-same}
-use Rattle.iox2_pubsub.specs.DepartedPorts.{HasRoom}
+use Rattle.iox2_pubsub.specs.DepartedPorts.{HasDepartedRoom}
 use Rattle.iox2_pubsub.specs.BorrowsLeft.{BorrowsLeftStay}
 use Rattle.iox2_pubsub.specs.Leaves.{Leaves, LeavesButChannels}
 use Rattle.iox2_pubsub.specs.Live.{IsConnected, IsUpToDate, No_item, RoomStays, Stays, WaitingStays}
@@ -87,7 +87,7 @@ module _ {T U F G : Type 0} {boxes : DomainBoxes F G} (f : Fields T U) (old : Ke
 
     -- each subscriber has the room that it had
     changed-room : RoomStays old new
-    changed-room = rooms-stay old new m m s (change s) shown now (λ q closes has. subst (λ (t : State T U). HasRoom t q closes) (sym (only s)) has)
+    changed-room = rooms-stay old new m m s (change s) shown now (λ q closes has. subst (λ (t : State T U). HasDepartedRoom t q closes) (sym (only s)) has)
 
     -- as many loans and numbers are left
     changed-left : LoansLeftStay old new

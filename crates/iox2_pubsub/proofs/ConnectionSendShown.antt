@@ -20,13 +20,13 @@ use Rattle.iox2_laws.proofs.SendsRemain.{PortsRemain}
 use Rattle.iox2_laws.proofs.UpToDate.{goes_on_subscribers, same_subscribers}
 use Rattle.iox2_laws.proofs.WaitingCounts.{same_from}
 use Rattle.iox2_laws.proofs.Waits.{Waits}
-use Rattle.iox2_domain.specs.ConnectionSends.{SendsLoanTo}
+use Rattle.iox2_domain.specs.ConnectionSends.{SendsKeptLoanTo}
 use Rattle.iox2_domain.specs.Fields.{Fields, kept_of}
 use Rattle.iox2_domain.specs.Kept.{Kept, state_of}
 use Rattle.iox2_domain.specs.Shows.{Shows}
 use Rattle.iox2_pubsub.specs.Handlers.{may_wait}
 use Rattle.iox2_pubsub.specs.Live.{A_sent_loan, HasLender, IsLoanKey, NeverFails, NeverWaits, OthersSend, StaysBut, UpToDateStay}
-use Rattle.iox2_pubsub.specs.SendCalls.{FailsDelivery, SendsToConnection, messages_after, result_of_send, spent_by_send}
+use Rattle.iox2_pubsub.specs.SendCalls.{FailsDelivery, SendsToConnection, messages_after_send, result_of_send, spent_by_send}
 use Rattle.iox2_pubsub.specs.declared.sample_mut.SampleMut.{SampleMut}
 use Rattle.iox2_pubsub.specs.declared.send_outcome.SendOutcome.{SendOutcome}
 use Rattle.iox2_pubsub.specs.declared.send_outcome.SendOutcome.TheVariants.{Delivered, Blocked}
@@ -140,7 +140,7 @@ module _ {T U : Type 0} (environment : Environment) (s : State T U) (n : ℕ) (l
 
 -- ---- what the domain shows
 
-module _ {T U : Type 0} (environment : Environment) (f g : Fields T U) (n channel connection : ℕ) (result : SendResult) (sends : SendsLoanTo environment f g n channel connection result) where
+module _ {T U : Type 0} (environment : Environment) (f g : Fields T U) (n channel connection : ℕ) (result : SendResult) (sends : SendsKeptLoanTo environment f g n channel connection result) where
   -- what a send to one connection leaves
   abbrev pub leaves-sent-to : LeavesSent f g n result
   leaves-sent-to = record {
@@ -229,7 +229,7 @@ module _ {T U F G : Type 0} (old new : Kept T U F G) (m : Messages T U) (s : Sta
 module _ {T U F G : Type 0} (old new : Kept T U F G) (m : Messages T U) (s : State T U) (shown : Shows old m s) (environment : Environment) (loan : SampleMut) (l : Loan T U) (out : s.loans loan.loan.number ≡ Some l)
     (its : l.publisher ≡ loan.loan.publisher) (channel place : ℕ) (s' : State T U) where
   -- a send to one connection that may fail, or be blocked
-  pub sent-to-stays : ((x : Publisher) → s.publishers l.publisher ≡ Some x → x.blocked ≡ None) → (result : Result SendOutcome SendError) → Shows new (messages_after m loan.loan.number l result) s'
+  pub sent-to-stays : ((x : Publisher) → s.publishers l.publisher ≡ Some x → x.blocked ≡ None) → (result : Result SendOutcome SendError) → Shows new (messages_after_send m loan.loan.number l result) s'
       → SendsToConnection environment s loan.loan.number l channel place result s' → BoxesStayBut (spent_by_send loan result) old new → StaysBut (spent_by_send loan result) old new
   sent-to-stays free (Ok (Delivered count)) shown' h boxes =
       subst (λ (p : ℕ). StaysBut (A_sent_loan loan.loan.number p false) old new) its
@@ -248,9 +248,9 @@ module _ {T U F G : Type 0} (old new : Kept T U F G) (m : Messages T U) (s : Sta
       (sent-before-stays m loan.loan.number l (Err error) (shown.unsent loan.loan.number l out)))
 
   -- what waits from others waits still
-  pub sent-to-others : (result : Result SendOutcome SendError) → Shows new (messages_after m loan.loan.number l result) s' → SendsToConnection environment s loan.loan.number l channel place result s' → OthersSend loan.loan.publisher old new
+  pub sent-to-others : (result : Result SendOutcome SendError) → Shows new (messages_after_send m loan.loan.number l result) s' → SendsToConnection environment s loan.loan.number l channel place result s' → OthersSend loan.loan.publisher old new
   sent-to-others result shown' h = λ other away.
-      fun_ext (λ subscriber. payloads-stay-from old new m (messages_after m loan.loan.number l result) s s' shown shown' (sent-before-stays m loan.loan.number l result (shown.unsent loan.loan.number l out)) other subscriber
+      fun_ext (λ subscriber. payloads-stay-from old new m (messages_after_send m loan.loan.number l result) s s' shown shown' (sent-before-stays m loan.loan.number l result (shown.unsent loan.loan.number l out)) other subscriber
       (to-others environment s loan.loan.number l channel place s' (result_of_send result) h other subscriber.id (λ same. away (same ∙ its))))
 
   pub sent-to-up_to_date : (result : SendResult) (m' : Messages T U) → Shows new m' s' → SendToConnection environment s loan.loan.number l channel place s' result → UpToDateStay old new

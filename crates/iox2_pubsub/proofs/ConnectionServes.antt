@@ -27,7 +27,7 @@ use Rattle.iox2_domain.specs.Shows.{Shows}
 use Rattle.iox2_pubsub.specs.ConnectedPorts.{Connects}
 use Rattle.iox2_pubsub.specs.Counts.{HaveTaken}
 use Rattle.iox2_pubsub.specs.Live.{HasItsBuffer, IsAtConnection, IsBlockedSend, IsConnected, IsServed, IsServedOrPending, blocked_key, payloads_from}
-use Rattle.iox2_pubsub.specs.SendCalls.{IfBlocked, IsDelivered, SendsToConnection, messages_after, result_of_send}
+use Rattle.iox2_pubsub.specs.SendCalls.{IfBlocked, IsDelivered, SendsToConnection, messages_after_send, result_of_send}
 use Rattle.iox2_pubsub.specs.Slices.{HasValues}
 use Rattle.iox2_pubsub.specs.declared.send_outcome.SendOutcome.{SendOutcome}
 use Rattle.iox2_pubsub.specs.declared.send_outcome.SendOutcome.TheVariants.{Blocked, Delivered}
@@ -80,7 +80,7 @@ unfolding IsAtConnection
 connection-is kept p connection subscriber at = at
 
 module _ {T U F G : Type 0} (old new : Kept T U F G) (m : Messages T U) (s : State T U) (shown : Shows old m s) (environment : Environment) (n : ℕ) (l : Loan T U) (out : s.loans n ≡ Some l) (p : ℕ) (its : l.publisher ≡ p)
-    (place : ℕ) (result : Result SendOutcome SendError) (s' : State T U) (shown' : Shows new (messages_after m n l result) s') (h : SendsToConnection environment s n l 0 place result s')
+    (place : ℕ) (result : Result SendOutcome SendError) (s' : State T U) (shown' : Shows new (messages_after_send m n l result) s') (h : SendsToConnection environment s n l 0 place result s')
     (subscriber : Subscriber) (at : IsAtConnection old p place subscriber) (is : IsConnected old p subscriber) where
   abbrev here : IsConnected old l.publisher subscriber
   here = subst (λ (i : ℕ). IsConnected old i subscriber) (sym its) is
@@ -125,12 +125,12 @@ module _ {T U F G : Type 0} (old new : Kept T U F G) (m : Messages T U) (s : Sta
   sent = shown.unsent n l out
 
   -- it is served where the send is delivered
-  pub connection-serves : (values : List T) → HasValues old n values → messages_after m n l result n ≡ Some (entry_of l) → IfOk result (λ outcome. IsDelivered outcome → IsServed old new p subscriber values)
+  pub connection-serves : (values : List T) → HasValues old n values → messages_after_send m n l result n ≡ Some (entry_of l) → IfOk result (λ outcome. IsDelivered outcome → IsServed old new p subscriber values)
   connection-serves values reads is_sent =
       when-delivered result (IsServed old new p subscriber values) (λ ended.
       ⊎_elim
       (λ it. subst (λ (i : ℕ). IsServed old new i subscriber values) its (subst (IsServed old new l.publisher subscriber) (loan-values old m s shown n l values out reads)
-      (box-served old new m (messages_after m n l result) s s' shown shown' (sent-before-stays m n l result sent) l.publisher touches n (entry_of l) is_sent (to-connections environment s n l 0 place s' (result_of_send result) h)
+      (box-served old new m (messages_after_send m n l result) s s' shown shown' (sent-before-stays m n l result sent) l.publisher touches n (entry_of l) is_sent (to-connections environment s n l 0 place s' (result_of_send result) h)
       (send_to_connection_remains environment s n l 0 place s' (result_of_send result) h).config subscriber here c it.1)))
       (λ it. absurd (ended it.0))
       comes)
@@ -174,10 +174,10 @@ module _ {T U F G : Type 0} (old new : Kept T U F G) (m : Messages T U) (s : Sta
       subst (λ (i : ℕ). HaveTaken old new i values (subscriber ∷ []) reached) its
       (subst (HaveTaken old new l.publisher values (subscriber ∷ [])) (sym same)
       (one-taken old new l.publisher values subscriber (takes_next s l.publisher subscriber.id)
-      (decided-shown old new m (messages_after m n l result) s s' shown shown' l.publisher values n subscriber c (to-connections environment s n l 0 place s' (result_of_send result) h l.publisher subscriber.id c) box
+      (decided-shown old new m (messages_after_send m n l result) s s' shown shown' l.publisher values n subscriber c (to-connections environment s n l 0 place s' (result_of_send result) h l.publisher subscriber.id c) box
       (subst (λ (i : ℕ). IsServed old new i subscriber values) (sym its) served))))
 
-  pub counts-served : (values : List T) → HasValues old n values → (reached : ℕ) → result ≡ Ok (Delivered reached) → messages_after m n l result n ≡ Some (entry_of l) → HaveTaken old new p values (subscriber ∷ []) reached
+  pub counts-served : (values : List T) → HasValues old n values → (reached : ℕ) → result ≡ Ok (Delivered reached) → messages_after_send m n l result n ≡ Some (entry_of l) → HaveTaken old new p values (subscriber ∷ []) reached
   counts-served values reads reached is is_sent =
       connection-counts values reached (ap result_of_send is) (subst (λ (r : Result SendOutcome SendError). IfOk r (λ outcome. IsDelivered outcome → IsServed old new p subscriber values)) is (connection-serves values reads is_sent) tt)
 
@@ -186,14 +186,14 @@ module _ {T U F G : Type 0} (old new : Kept T U F G) (m : Messages T U) (s : Sta
   in-first : (result : Result SendOutcome SendError) (s' : State T U) → SendsToConnection environment s n l channel place result s' → SendsToConnection environment s n l 0 place result s'
   in-first result s' h = subst (λ (k : ℕ). SendsToConnection environment s n l k place result s') first h
 
-  pub sends-to-serves : (result : Result SendOutcome SendError) (s' : State T U) → Shows new (messages_after m n l result) s' → SendsToConnection environment s n l channel place result s'
+  pub sends-to-serves : (result : Result SendOutcome SendError) (s' : State T U) → Shows new (messages_after_send m n l result) s' → SendsToConnection environment s n l channel place result s'
       → (subscriber : Subscriber) (values : List T) → IsAtConnection old p place subscriber → IsConnected old p subscriber → HasValues old n values → IfOk result (λ outcome. IsDelivered outcome → IsServed old new p subscriber values)
   sends-to-serves (Ok outcome) s' shown' h subscriber values at is reads =
       connection-serves old new m s shown environment n l out p its place (Ok outcome) s' shown' (in-first (Ok outcome) s' h) subscriber at is values reads (put_at-same m n (Some (entry_of l)))
   sends-to-serves (Err error) s' shown' h subscriber values at is reads = tt
 
   -- and where it is blocked, it was left as it was, and the send has it before it
-  pub sends-to-pends : (result : Result SendOutcome SendError) (s' : State T U) → Shows new (messages_after m n l result) s' → SendsToConnection environment s n l channel place result s'
+  pub sends-to-pends : (result : Result SendOutcome SendError) (s' : State T U) → Shows new (messages_after_send m n l result) s' → SendsToConnection environment s n l channel place result s'
       → (key : Key) → key.port ≡ p → key.message ≡ n → IfOk result (λ outcome. IfBlocked outcome (λ blocked. IsBlockedSend new blocked × (blocked_key blocked ≡ key)))
       → (subscriber : Subscriber) (values : List T) → IsAtConnection old p place subscriber → IsConnected old p subscriber → HasValues old n values
       → IfOk result (λ outcome. IfBlocked outcome (λ blocked. IsServedOrPending old new blocked subscriber values))
@@ -211,7 +211,7 @@ module _ {T U F G : Type 0} (old new : Kept T U F G) (m : Messages T U) (s : Sta
       (loan-values old m s shown n l values out reads) (⊎_elim (λ it. absurd (it.0 refl)) (λ it. it.1) came)
 
   -- and whether it was counted
-  pub sends-to-counts : (result : Result SendOutcome SendError) (s' : State T U) → Shows new (messages_after m n l result) s' → SendsToConnection environment s n l channel place result s'
+  pub sends-to-counts : (result : Result SendOutcome SendError) (s' : State T U) → Shows new (messages_after_send m n l result) s' → SendsToConnection environment s n l channel place result s'
       → (subscriber : Subscriber) (values : List T) → IsAtConnection old p place subscriber → IsConnected old p subscriber → HasValues old n values
       → IfOk result (λ outcome. (count : ℕ) → outcome ≡ Delivered count → HaveTaken old new p values (subscriber ∷ []) count)
   sends-to-counts (Ok outcome) s' shown' h subscriber values at is reads = λ count same.
@@ -220,7 +220,7 @@ module _ {T U F G : Type 0} (old new : Kept T U F G) (m : Messages T U) (s : Sta
   sends-to-counts (Err error) s' shown' h subscriber values at is reads = tt
 
   -- nor is it kept from a subscriber that has room
-  pub sends-to-roomy : (result : Result SendOutcome SendError) (s' : State T U) → Shows new (messages_after m n l result) s' → SendsToConnection environment s n l channel place result s'
+  pub sends-to-roomy : (result : Result SendOutcome SendError) (s' : State T U) → Shows new (messages_after_send m n l result) s' → SendsToConnection environment s n l channel place result s'
       → (subscriber : Subscriber) → IsAtConnection old p place subscriber → IsConnected old p subscriber → HasItsBuffer old subscriber
       → length (payloads_from old p subscriber) < subscriber.buffer_size → IsUnhindered (result_of_send result)
   sends-to-roomy result s' shown' h subscriber at is = connection-roomy old new m s shown environment n l out p its place result s' shown' (in-first result s' h) subscriber at is

@@ -20,7 +20,7 @@ use Rattle.iox2_domain.specs.Kept.{Kept, state_of, entries_of}
 use Rattle.iox2_domain.specs.Shows.{Shows}
 use Rattle.iox2_pubsub.specs.ConnectedPorts.{Connects}
 use Rattle.iox2_pubsub.specs.Live.{ConnectionsStay, IsConnected, IsFull, IsServed, IsUpToDate, NoneRefused, payloads_from, waiting, IsSubscriberKey, subscriber_key}
-use Rattle.iox2_pubsub.specs.SendCalls.{IsDelivered, Sends, messages_after}
+use Rattle.iox2_pubsub.specs.SendCalls.{IsDelivered, Sends, messages_after_send}
 use Rattle.iox2_pubsub.specs.declared.send_outcome.SendOutcome.{SendOutcome}
 use Rattle.iox2_pubsub.specs.declared.send_outcome.SendOutcome.TheVariants.{Delivered, Blocked}
 use Rattle.iox2_machine.specs.declared.errors.SendError.{SendError}
@@ -157,7 +157,7 @@ module _ {T U F G : Type 0} (old new : Kept T U F G) (m m' : Messages T U) (s s'
 
 module _ {T U F G : Type 0} (old new : Kept T U F G) (m : Messages T U) (s : State T U) (environment : Environment) (shown : Shows old m s) where
   -- what a send serves, by its result
-  pub serves : (n : ℕ) (l : Loan T U) (p : ℕ) (result : Result SendOutcome SendError) (s' : State T U) → Shows new (messages_after m n l result) s' → Sends environment s n l result s' → m n ≡ None
+  pub serves : (n : ℕ) (l : Loan T U) (p : ℕ) (result : Result SendOutcome SendError) (s' : State T U) → Shows new (messages_after_send m n l result) s' → Sends environment s n l result s' → m n ≡ None
       → s.loans n ≡ Some l → l.publisher ≡ p → is_blocked (state_of old) p ≡ false → (subscriber : Subscriber) (values : List T) → IsConnected old p subscriber → HasValues old n values
       → IfOk result (λ outcome. IsDelivered outcome → IsServed old new p subscriber values)
   serves n l p (Ok (Delivered count)) s' shown' h unsent out its free subscriber values is reads = λ _.

@@ -20,7 +20,7 @@ use Rattle.iox2_pubsub.specs.ConnectedPorts.{Connects}
 use Rattle.iox2_pubsub.specs.Counts.{Counts, HasMissed, HasTaken, HaveTaken}
 use Rattle.iox2_pubsub.specs.Live.{IsConnected, IsServed, payloads_from}
 use Rattle.iox2_pubsub.specs.Payloads.{payload_of}
-use Rattle.iox2_pubsub.specs.SendCalls.{IsDelivered, Sends, messages_after}
+use Rattle.iox2_pubsub.specs.SendCalls.{IsDelivered, Sends, messages_after_send}
 use Rattle.iox2_pubsub.specs.declared.send_outcome.SendOutcome.{SendOutcome}
 use Rattle.iox2_pubsub.specs.declared.send_outcome.SendOutcome.TheVariants.{Blocked, Delivered}
 use Rattle.iox2_pubsub.specs.declared.subscriber.Subscriber.{Subscriber as Handle}
@@ -165,7 +165,7 @@ connects-each kept m s shown p (subscriber ∷ others) connected q at =
 
 module _ {T U F G : Type 0} (old new : Kept T U F G) (m : Messages T U) (s : State T U) (environment : Environment) (shown : Shows old m s) (n : ℕ) (l : Loan T U) (p : ℕ) (its : l.publisher ≡ p) (free : is_blocked (state_of old) p ≡ false)
     (subscribers : List Handle) (values : List T) (different : AreDifferent subscribers) (connected : AreConnected old p subscribers) where
-  send-counted : (count : ℕ) (s' : State T U) → Shows new (messages_after m n l (Ok (Delivered count))) s' → Sends environment s n l (Ok (Delivered count)) s'
+  send-counted : (count : ℕ) (s' : State T U) → Shows new (messages_after_send m n l (Ok (Delivered count))) s' → Sends environment s n l (Ok (Delivered count)) s'
       → ((subscriber : Handle) → IsConnected old l.publisher subscriber → IsServed old new l.publisher subscriber values) → Counts old new l.publisher values subscribers count
   send-counted count s' shown' h served =
       let open_now : is_blocked s l.publisher ≡ false = ap (λ (t : State T U). is_blocked t l.publisher) shown.state ∙ ap (is_blocked (state_of old)) its ∙ free in
@@ -177,7 +177,7 @@ module _ {T U F G : Type 0} (old new : Kept T U F G) (m : Messages T U) (s : Sta
         taken = length (filter (takes_next s l.publisher) (ids_of subscribers));
         took = have-taken old new l.publisher values (takes_next s l.publisher) (λ subscriber is.
             let c = connected-in old m s shown l.publisher subscriber is in
-            decided-shown old new m (messages_after m n l (Ok (Delivered count))) s s' shown shown' l.publisher values n subscriber c
+            decided-shown old new m (messages_after_send m n l (Ok (Delivered count))) s s' shown shown' l.publisher values n subscriber c
             (send-connections environment s n l s' _ shown.well_formed h l.publisher subscriber.id c)
             (send-serves environment s n l s' count shown.well_formed open_now subscriber.id c h) (served subscriber is)) subscribers here;
         at_least = counts.at_least;
@@ -187,7 +187,7 @@ module _ {T U F G : Type 0} (old new : Kept T U F G) (m : Messages T U) (s : Sta
       }
 
   -- what a send counts, by its result
-  pub sends-count : (result : Result SendOutcome SendError) (s' : State T U) → Shows new (messages_after m n l result) s' → Sends environment s n l result s'
+  pub sends-count : (result : Result SendOutcome SendError) (s' : State T U) → Shows new (messages_after_send m n l result) s' → Sends environment s n l result s'
       → ((subscriber : Handle) → IsConnected old p subscriber → IfOk result (λ outcome. IsDelivered outcome → IsServed old new p subscriber values))
       → IfOk result (λ outcome. (count : ℕ) → outcome ≡ Delivered count → Counts old new p values subscribers count)
   sends-count (Ok (Delivered reached)) s' shown' h served = λ count is.

@@ -7,7 +7,7 @@ use Rattle.iox2_machine.specs.machine.State.{State, Messages}
 use Rattle.iox2_machine.specs.declared.errors.PublisherCreateError.{PublisherCreateError}
 use Rattle.iox2_domain.specs.Kept.{Kept}
 use Rattle.iox2_domain.specs.Shows.{Shows}
-use Rattle.iox2_pubsub.specs.DepartedPorts.{HasRoom}
+use Rattle.iox2_pubsub.specs.DepartedPorts.{HasDepartedRoom}
 use Rattle.iox2_pubsub.specs.Live.{HasRoomFor, RoomStays}
 use Rattle.iox2_pubsub.specs.declared.subscriber.Subscriber.{Subscriber}
 use Rattle.iox2_pubsub.proofs.DepartedStays.{create-publisher-room, created-room, publisher-closed-room, subscriber-closed-room}
@@ -33,5 +33,5 @@ module _ {T U F G : Type 0} (old new : Kept T U F G) (m m' : Messages T U) (s s'
   pub subscriber-made-room : (given : SubscriberSettings) → CreateSubscriber environment s given s' None → (subscriber : Subscriber) → subscriber.id ≡ s.next_port
       → (closes : ℕ) → closes ≤ expired_limit old.config → HasRoomFor new subscriber closes
   subscriber-made-room given h subscriber its closes low =
-      room new m' s' shown' subscriber closes (subst (λ (q : ℕ). HasRoom s' q closes) (sym its)
+      room new m' s' shown' subscriber closes (subst (λ (q : ℕ). HasDepartedRoom s' q closes) (sym its)
       (created-room environment s shown.well_formed given s' None h closes (subst (λ (t : State T U). closes ≤ expired_limit t.config) (sym shown.state) low)))

@@ -30,7 +30,7 @@ use Rattle.iox2_laws.proofs.PortsStay.{PortsStay, grant_loan_stays, loan_discard
 use Rattle.iox2_laws.proofs.Puts.{at_each}
 use Rattle.iox2_laws.proofs.SendsRemain.{send_remains, retry_remains, give_up_remains}
 use Rattle.iox2_laws.proofs.UpToDate.{grant_loan_subscribers, update_publisher_subscribers, send_subscribers, retry_subscribers, give_up_subscribers}
-use Rattle.iox2_pubsub.specs.DepartedPorts.{is_gone, departed_of, departed_at, HasRoom}
+use Rattle.iox2_pubsub.specs.DepartedPorts.{is_gone, departed_of, departed_at, HasDepartedRoom}
 use Rattle.iox2_pubsub.proofs.DepartedCounts.{passing, passing-kept, passing-less, passing-one-more}
 use Rattle.iox2_pubsub.proofs.DepartedUpdates.{update-subscriber-departed}
 use Rattle.iox2_pubsub.proofs.SubscriberSteps.{create-subscriber-by-steps}
@@ -38,7 +38,7 @@ use Rattle.iox2_pubsub.proofs.SubscriberSteps.{create-subscriber-by-steps}
 module _ {T U : Type 0} where
   -- Each subscriber has room for as many closed publishers as it had.
   abbrev pub RoomStays : (s s' : State T U) → Type 0
-  RoomStays s s' = (q closes : ℕ) → HasRoom s q closes → HasRoom s' q closes
+  RoomStays s s' = (q closes : ℕ) → HasDepartedRoom s q closes → HasDepartedRoom s' q closes
 
   -- the settings stay, and no subscriber has more connections with closed publishers
   room-stays : (s s' : State T U) → s'.config ≡ s.config → ((q : ℕ) → departed_at s' q ≤ departed_at s q) → RoomStays s s'
@@ -79,7 +79,7 @@ module _ {T U : Type 0} where
   room-on = record { itself = λ t q closes has. has; trans = λ t u v first then q closes has. then q closes (first q closes has) }
 
   pub room-itself : (s s' : State T U) → s' ≡ s → RoomStays s s'
-  room-itself s s' same q closes has = subst (λ (t : State T U). HasRoom t q closes) (sym same) has
+  room-itself s s' same q closes has = subst (λ (t : State T U). HasDepartedRoom t q closes) (sym same) has
 
   -- ---- loans and sends
 
@@ -187,7 +187,7 @@ module _ {T U : Type 0} where
 
   -- a new subscriber has room for as many as it may keep
   pub created-room : (environment : Environment) (s : State T U) → IsWellFormed s → (given : SubscriberSettings) (s' : State T U) (refusal : Option SubscriberCreateError)
-      → CreateSubscriber environment s given s' refusal → (closes : ℕ) → closes ≤ expired_limit s.config → HasRoom s' s.next_port closes
+      → CreateSubscriber environment s given s' refusal → (closes : ℕ) → closes ≤ expired_limit s.config → HasDepartedRoom s' s.next_port closes
   created-room environment s w given s' refusal h closes low =
       let none : departed_at s s.next_port ≡ 0 = unknown-departed s w in
       create-subscriber-room environment s w given s' refusal h s.next_port closes (omega arith)
@@ -217,7 +217,7 @@ module _ {T U : Type 0} where
   -- ---- closes
 
   -- a publisher's close adds one at most
-  pub publisher-closed-room : (s : State T U) (p : ℕ) (x : Publisher) → IsWellFormed s → (q closes : ℕ) → HasRoom s q (suc closes) → HasRoom (publisher_closed s p x) q closes
+  pub publisher-closed-room : (s : State T U) (p : ℕ) (x : Publisher) → IsWellFormed s → (q closes : ℕ) → HasDepartedRoom s q (suc closes) → HasDepartedRoom (publisher_closed s p x) q closes
   publisher-closed-room s p x w q closes has =
       let most : departed_at (publisher_closed s p x) q ≤ suc (departed_at s q) = by (s.subscribers q) refl in
       let room : departed_at s q + suc closes ≤ expired_limit s.config = has in

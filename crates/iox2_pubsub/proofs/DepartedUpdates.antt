@@ -26,7 +26,7 @@ use Rattle.iox2_laws.proofs.Puts.{put_at-same, put_at-other}
 use Rattle.iox2_laws.proofs.ReceiverSides.{ReceiverSideIsWellFormed, receiver_side_begins, first_is, connect_at_place_keeps, disconnect_at_place_keeps}
 use Rattle.iox2_laws.proofs.WaitingCounts.{SameWaits, by_record, cond_same}
 use Rattle.iox2_laws.proofs.WaitingReceives.{UpdateWaits, update_subscriber_waits}
-use Rattle.iox2_pubsub.specs.DepartedPorts.{is_gone, departed_of, departed_at, HasRoom}
+use Rattle.iox2_pubsub.specs.DepartedPorts.{is_gone, departed_of, departed_at, HasDepartedRoom}
 use Rattle.iox2_pubsub.proofs.ConnectionsStay.{walk-stays, receives-by, update-knows}
 use Rattle.iox2_pubsub.proofs.DepartedCounts.{passing, passing-put, passing-removed}
 
@@ -266,7 +266,7 @@ module _ {T U : Type 0} (environment : Environment) (s : State T U) (w : IsWellF
         ∙ sym (by_record s p q (Some y) present)
 
   -- An update loses nothing where there is room for all closed publishers, whether it fails or not.
-  pub update-keeps-all : (s' : State T U) (failure : Option ConnectionFailure) → HasRoom s q 0 → UpdateSubscriber environment s q s' failure → SameWaits s s'
+  pub update-keeps-all : (s' : State T U) (failure : Option ConnectionFailure) → HasDepartedRoom s q 0 → UpdateSubscriber environment s q s' failure → SameWaits s s'
   update-keeps-all s' failure room h =
       let waits : UpdateWaits environment s q s' = update_subscriber_waits environment s q s' failure h in
       record {

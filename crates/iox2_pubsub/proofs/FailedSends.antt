@@ -25,7 +25,7 @@ use Rattle.iox2_domain.specs.Kept.{Kept, state_of}
 use Rattle.iox2_domain.specs.Shows.{Shows}
 use Rattle.iox2_pubsub.specs.ConnectedPorts.{Connects}
 use Rattle.iox2_pubsub.specs.Live.{HasItsBuffer, IsConnected, IsServed, WaitingStays}
-use Rattle.iox2_pubsub.specs.SendCalls.{AfterError, Sends, messages_after}
+use Rattle.iox2_pubsub.specs.SendCalls.{AfterError, Sends, messages_after_send}
 use Rattle.iox2_pubsub.specs.Slices.{HasValues}
 use Rattle.iox2_pubsub.specs.declared.send_outcome.SendOutcome.{SendOutcome}
 use Rattle.iox2_pubsub.specs.declared.subscriber.Subscriber.{Subscriber as Handle}
@@ -109,11 +109,11 @@ module _ {T U : Type 0} (environment : Environment) where
 -- ---- for the calls
 
 -- after an error of delivery, the message is one
-error-messages : {T U : Type 0} (m : Messages T U) (n : ℕ) (l : Loan T U) (error : SendError) → error ≡ UnableToDeliver → messages_after m n l (Err error) n ≡ Some (entry_of l)
-error-messages m n l error is = subst (λ (e : SendError). messages_after m n l (Err e) n ≡ Some (entry_of l)) (sym is) (put_at-same m n (Some (entry_of l)))
+error-messages : {T U : Type 0} (m : Messages T U) (n : ℕ) (l : Loan T U) (error : SendError) → error ≡ UnableToDeliver → messages_after_send m n l (Err error) n ≡ Some (entry_of l)
+error-messages m n l error is = subst (λ (e : SendError). messages_after_send m n l (Err e) n ≡ Some (entry_of l)) (sym is) (put_at-same m n (Some (entry_of l)))
 
 pub sends-fail : {T U F G : Type 0} (old new : Kept T U F G) (m : Messages T U) (s : State T U) (environment : Environment) → Shows old m s → (n : ℕ) (l : Loan T U) (p : ℕ) (result : Result SendOutcome SendError) (s' : State T U)
-    → Shows new (messages_after m n l result) s' → Sends environment s n l result s' → m n ≡ None → s.loans n ≡ Some l → l.publisher ≡ p → is_blocked (state_of old) p ≡ false
+    → Shows new (messages_after_send m n l result) s' → Sends environment s n l result s' → m n ≡ None → s.loans n ≡ Some l → l.publisher ≡ p → is_blocked (state_of old) p ≡ false
     → (subscriber : Handle) (values : List T) → IsConnected old p subscriber → HasValues old n values → IfErr result (AfterError old new p subscriber values)
 sends-fail old new m s environment shown n l p (Ok outcome) s' shown' h unsent out its free subscriber values is reads = tt
 sends-fail {T} {U} old new m s environment shown n l p (Err error) s' shown' h unsent out its free subscriber values is reads =
@@ -125,13 +125,13 @@ sends-fail {T} {U} old new m s environment shown n l p (Err error) s' shown' h u
     let fails = send-fails environment s n l s' shown.well_formed open_now subscriber.id c error h in (
       λ is_undelivered. ⊎_elim
           (λ it. subst (λ (i : ℕ). IsServed old new i subscriber values) its (subst (IsServed old new l.publisher subscriber) (loan-values old m s shown n l values out reads)
-          (box-served old new m (messages_after m n l (Err error)) s s' shown shown' sent l.publisher touches n (entry_of l) (error-messages m n l error is_undelivered)
+          (box-served old new m (messages_after_send m n l (Err error)) s s' shown shown' sent l.publisher touches n (entry_of l) (error-messages m n l error is_undelivered)
           (send-connections environment s n l s' (Send_error error) shown.well_formed h) (send_remains environment s n l s' (Send_error error) h).config subscriber here c it.1)))
           (λ it. absurd (it.0 is_undelivered))
           fails,
       λ other. ⊎_elim
           (λ it. absurd (other it.0))
-          (λ it. as-before old new m (messages_after m n l (Err error)) s s' shown shown' sent l.publisher touches subscriber it.1)
+          (λ it. as-before old new m (messages_after_send m n l (Err error)) s s' shown shown' sent l.publisher touches subscriber it.1)
           fails,
     )
 

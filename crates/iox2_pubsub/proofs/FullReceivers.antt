@@ -22,7 +22,7 @@ use Rattle.iox2_pubsub.specs.BlockedSends.{AreEach, IsNext, IsPastOrRoomy, waits
 use Rattle.iox2_pubsub.specs.ConnectedPorts.{Connects}
 use Rattle.iox2_pubsub.specs.Live.{HasItsBuffer, IsBlockedSend, IsConnected, IsFull, IsPending, Overflows, WaitingStays, blocked_key, payloads_from, subscriber_key}
 use Rattle.iox2_pubsub.specs.PendingSends.{GoesTo, PassesBy}
-use Rattle.iox2_pubsub.specs.SendCalls.{IfBlocked, IsDelivered, Sends, messages_after, result_of_send}
+use Rattle.iox2_pubsub.specs.SendCalls.{IfBlocked, IsDelivered, Sends, messages_after_send, result_of_send}
 use Rattle.iox2_pubsub.specs.declared.blocked_send.BlockedSend.{BlockedSend}
 use Rattle.iox2_pubsub.specs.declared.send_outcome.SendOutcome.{SendOutcome}
 use Rattle.iox2_pubsub.specs.declared.send_outcome.SendOutcome.TheVariants.{Blocked, Delivered}
@@ -190,7 +190,7 @@ unless-blocked (Err error) never = tt
 
 -- a send
 pub sends-full : {T U F G : Type 0} (old new : Kept T U F G) (m : Messages T U) (s : State T U) (environment : Environment) → Shows old m s → (n : ℕ) (l : Loan T U) (p : ℕ) (result : Result SendOutcome SendError) (s' : State T U)
-    → Shows new (messages_after m n l result) s' → Sends environment s n l result s' → l.publisher ≡ p → is_blocked (state_of old) p ≡ false → (key : Key) → key.port ≡ p
+    → Shows new (messages_after_send m n l result) s' → Sends environment s n l result s' → l.publisher ≡ p → is_blocked (state_of old) p ≡ false → (key : Key) → key.port ≡ p
     → IfOk result (λ outcome. IfBlocked outcome (λ blocked. IsBlockedSend new blocked × (blocked_key blocked ≡ key))) → (subscriber : Handle) → IsConnected old p subscriber
     → IfOk result (λ outcome. IfBlocked outcome (λ blocked. IsNext new blocked subscriber → IsFull old p subscriber))
 sends-full old new m s environment shown n l p (Ok (Delivered count)) s' shown' h its free key port blocked subscriber is = tt
@@ -199,7 +199,7 @@ sends-full {T} {U} old new m s environment shown n l p (Ok (Blocked again)) s' s
     let open_now : is_blocked s l.publisher ≡ false = ap (λ (t : State T U). is_blocked t l.publisher) shown.state ∙ ap (is_blocked (state_of old)) its ∙ free in
     let stops : StopsFull s s' p n = subst (λ (i : ℕ). StopsFull s s' i n) its (send-stops environment s n l s' shown.well_formed open_now h) in
     let sender : again.loan.publisher ≡ p = ap (λ (k : Key). k.port) blocked.1 ∙ port in
-    (next-is-full old new m (messages_after m n l (Ok (Blocked again))) s s' shown shown' p n stops subscriber is (ap (waits_for (state_of new)) (sym sender) ∙ next-parts new again subscriber next)).0
+    (next-is-full old new m (messages_after_send m n l (Ok (Blocked again))) s s' shown shown' p n stops subscriber is (ap (waits_for (state_of new)) (sym sender) ∙ next-parts new again subscriber next)).0
 
 -- a copy's, seen from before
 full-since : {T U F G : Type 0} {old mid : Kept T U F G} → WaitingStays old mid → ((it : Handle) → HasItsBuffer old it → HasItsBuffer mid it) → (p lender : ℕ) → lender ≡ p → (subscriber : Handle)

@@ -14,7 +14,7 @@ use Rattle.iox2_domain.specs.Shows.{Shows}
 use Rattle.iox2_domain.specs.declared.loan_slots.LoanAt.{LoanAt}
 use Rattle.iox2_domain.specs.LoanSlots.{LiesInSlot}
 use Rattle.iox2_domain.specs.KeptPlaces.{KeepsPlaces}
-use Rattle.iox2_pubsub.specs.GrantedLoans.{IsLent, IsLentUnwritten, IsUnfilled}
+use Rattle.iox2_pubsub.specs.GrantedLoans.{IsLent, IsLentUnwritten, HasOnlyUnwrittenCells}
 use Rattle.iox2_pubsub.specs.Leaves.{LeavesLending}
 use Rattle.iox2_pubsub.specs.Live.{A_loan, IsNewIn, IsPublisherKey, IsReadyPublisher, IsUnwritten, LoanHasHeader, Stays, lender_key, publisher_key, unwritten_key}
 use Rattle.iox2_pubsub.specs.LoansLeft.{LoansLeftStay}
@@ -106,7 +106,7 @@ module _ {T U F G : Type 0} {boxes : DomainBoxes F G} (is_default : U → Type 0
     }
 
     -- its cells, as many as its elements have units
-    pub lent-unfilled : (count : ℕ) → len * (kept.config).units_per_element ≡ count → IsUnfilled publisher unwritten len count kept (keeping boxes mid)
+    pub lent-unfilled : (count : ℕ) → len * (kept.config).units_per_element ≡ count → HasOnlyUnwrittenCells publisher unwritten len count kept (keeping boxes mid)
     lent-unfilled count many =
         let config : f.config ≡ kept.config = ap (λ (k : Kept T U F G). k.config) view in
         let units : len * (f.config).units_per_element ≡ count = ap (λ (c : ServiceConfig). len * c.units_per_element) config ∙ many in

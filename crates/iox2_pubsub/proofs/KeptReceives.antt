@@ -25,10 +25,10 @@ use Rattle.iox2_laws.proofs.SubscriberUpdates.{update_subscriber_keeps}
 use Rattle.iox2_laws.proofs.UpToDate.{IsUpdated}
 use Rattle.iox2_laws.proofs.WaitingCounts.{SameWaits, same_count, same_from, same_itself, waiting_for}
 use Rattle.iox2_laws.proofs.WaitingReceives.{receive_none, take_waits}
-use Rattle.iox2_pubsub.specs.DepartedPorts.{HasRoom}
+use Rattle.iox2_pubsub.specs.DepartedPorts.{HasDepartedRoom}
 use Rattle.iox2_pubsub.specs.Live.{IsLiveSubscriber, KeepsAll, OthersSend, WaitingStays, payloads_from, waiting}
 use Rattle.iox2_pubsub.specs.ReceivedSamples.{OnNoSample, received_result}
-use Rattle.iox2_pubsub.specs.SendCalls.{Sends, messages_after, result_of_send}
+use Rattle.iox2_pubsub.specs.SendCalls.{Sends, messages_after_send, result_of_send}
 use Rattle.iox2_pubsub.specs.Sample.{Sample}
 use Rattle.iox2_pubsub.specs.declared.send_outcome.SendOutcome.{SendOutcome}
 use Rattle.iox2_pubsub.specs.declared.subscriber.Subscriber.{Subscriber}
@@ -51,7 +51,7 @@ module _ {T U : Type 0} (environment : Environment) (s : State T U) (q : ℕ) wh
       (λ due h. absurd (true≢false (sym due ∙ ap (λ (z : MachineSubscriber). z.is_due) (same_Some y is.0 (sym present ∙ is.1)) ∙ is.3)))
       (λ _ h. h.0))
 
-  keeps-by : IsWellFormed s → IsUpdated s q ⊎ HasRoom s q 0 → Keeps
+  keeps-by : IsWellFormed s → IsUpdated s q ⊎ HasDepartedRoom s q 0 → Keeps
   keeps-by w how t failure h =
       ⊎_elim (λ is. subst (SameWaits s) (sym (unchanged is t failure h)) (same_itself s)) (λ room. update-keeps-all environment s w q t failure room h) how
 
@@ -149,7 +149,7 @@ module _ {T U F G : Type 0} (old new : Kept T U F G) (m m' : Messages T U) (s s'
 
 -- a send leaves what waits from others than its publisher
 pub others-send : {T U F G : Type 0} (old new : Kept T U F G) (m : Messages T U) (s : State T U) → Shows old m s → (environment : Environment) (n : ℕ) (l : Loan T U) (p : ℕ)
-    (result : Result SendOutcome SendError) (s' : State T U) → Shows new (messages_after m n l result) s' → Sends environment s n l result s' → m n ≡ None → l.publisher ≡ p → OthersSend p old new
+    (result : Result SendOutcome SendError) (s' : State T U) → Shows new (messages_after_send m n l result) s' → Sends environment s n l result s' → m n ≡ None → l.publisher ≡ p → OthersSend p old new
 others-send old new m s shown environment n l p result s' shown' h unsent its = λ other away.
-    fun_ext (λ subscriber. payloads-stay-from old new m (messages_after m n l result) s s' shown shown' (sent-before-stays m n l result unsent) other subscriber
+    fun_ext (λ subscriber. payloads-stay-from old new m (messages_after_send m n l result) s s' shown shown' (sent-before-stays m n l result unsent) other subscriber
     (send-others environment s n l s' (result_of_send result) h other subscriber.id (λ same. away (same ∙ its))))

@@ -21,9 +21,9 @@ use Rattle.iox2_domain.specs.Shows.{Shows}
 use Rattle.iox2_domain.proofs.lemmas.loans.LentLoans.{IsLent}
 use Rattle.iox2_domain.proofs.lemmas.slots.BookContents.{contents-there}
 use Rattle.iox2_domain.proofs.lemmas.loans.LoanCalls.{some-at, is-unwritten, is-written, user_header-read, in-lists, cells-listed, cell-some, cell-read, cells-read, value-some, value-read, values-read}
-use Rattle.iox2_pubsub.specs.ChangedLoans.{with_cell, with_cells, with_payload, with_payloads, with_user_header}
+use Rattle.iox2_pubsub.specs.ChangedLoans.{with_cell_left, with_cells_left, with_payload, with_payloads, with_user_header_left}
 use Rattle.iox2_pubsub.specs.Leaves.{LeavesBut}
-use Rattle.iox2_pubsub.specs.Live.{IsUnwritten, IsUnwrittenLoan, IsWritten, IsWrittenLoan, LoanHasHeader, LoanHasUserHeader, NeverWaits, A_loan, unwritten_key, written_key}
+use Rattle.iox2_pubsub.specs.Live.{IsUnwritten, NeverWaitsUnwritten, IsWritten, IsWrittenLoan, LoanHasHeader, LoanHasUserHeader, NeverWaits, A_loan, unwritten_key, written_key}
 use Rattle.iox2_pubsub.specs.Slices.{HasUnwrittenCells, HasValues}
 use Rattle.iox2_pubsub.specs.declared.sample_mut.SampleMut.{SampleMut}
 use Rattle.iox2_pubsub.specs.declared.sample_mut_uninit.SampleMutUninit.{SampleMutUninit}
@@ -54,24 +54,24 @@ with-boxes boxes kept = record {
 }
 
 module _ {T U F G : Type 0} (kept : Kept T U F G) (n : ℕ) where
-  pub cell-word : (cell : Option T) → with_cell kept n cell ≡ with_loan_changed n (first_cell_changed cell) kept
-  unfolding with_cell
+  pub cell-word : (cell : Option T) → with_cell_left kept n cell ≡ with_loan_changed n (first_cell_changed cell) kept
+  unfolding with_cell_left
   cell-word cell = refl
 
   pub payload-word : (value : T) → with_payload kept n value ≡ with_loan_changed n (first_cell_changed (Some value)) kept
   unfolding with_payload
   payload-word value = refl
 
-  pub cells-word : (cells : List (Option T)) → with_cells kept n cells ≡ with_loan_changed n (cells_changed cells) kept
-  unfolding with_cells
+  pub cells-word : (cells : List (Option T)) → with_cells_left kept n cells ≡ with_loan_changed n (cells_changed cells) kept
+  unfolding with_cells_left
   cells-word cells = refl
 
   pub payloads-word : (values : List T) → with_payloads kept n values ≡ with_loan_changed n (cells_changed (map Some values)) kept
   unfolding with_payloads
   payloads-word values = refl
 
-  pub user_header-word : (user_header : U) → with_user_header kept n user_header ≡ with_loan_changed n (user_header_changed user_header) kept
-  unfolding with_user_header
+  pub user_header-word : (user_header : U) → with_user_header_left kept n user_header ≡ with_loan_changed n (user_header_changed user_header) kept
+  unfolding with_user_header_left
   user_header-word user_header = refl
 
 -- a list of one element, the first of which was changed
@@ -107,7 +107,7 @@ pub record Lent {T U F G : Type 0} (inside kept after : Kept T U F G) (n : ℕ) 
   pub written : (h l).publisher ≡ l.publisher → (h l).is_written ≡ l.is_written → (loan : SampleMut) → loan.loan.number ≡ n → IsWritten kept loan → IsWritten after loan
   pub written_live : (h l).publisher ≡ l.publisher → (h l).is_written ≡ l.is_written → (loan : SampleMut) → loan.loan.number ≡ n → IsWritten kept loan → NeverWaits kept (written_key loan) → IsWrittenLoan after loan
   pub unwritten : (h l).publisher ≡ l.publisher → (h l).is_written ≡ l.is_written → (loan : SampleMutUninit) → loan.loan.number ≡ n → IsUnwritten kept loan → IsUnwritten after loan
-  pub unwritten_live : (h l).publisher ≡ l.publisher → (h l).is_written ≡ l.is_written → (loan : SampleMutUninit) → loan.loan.number ≡ n → IsUnwritten kept loan → NeverWaits kept (unwritten_key loan) → IsUnwrittenLoan after loan
+  pub unwritten_live : (h l).publisher ≡ l.publisher → (h l).is_written ≡ l.is_written → (loan : SampleMutUninit) → loan.loan.number ≡ n → IsUnwritten kept loan → NeverWaits kept (unwritten_key loan) → NeverWaitsUnwritten after loan
 
 module _ {T U F G : Type 0} {boxes : DomainBoxes F G} (f g : Fields T U) (sound : IsDomain f) (kept : Kept T U F G) (view : keeping boxes f ≡ kept) (n : ℕ) (l : Loan T U) (found : (state_of (kept_of f)).loans n ≡ Some l)
     (h : Loan T U → Loan T U) (lent : IsLent f g n l h) (after : Kept T U F G) (is : after ≡ with_loan_changed n h kept) where

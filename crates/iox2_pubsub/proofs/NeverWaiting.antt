@@ -11,7 +11,7 @@ use Rattle.iox2_machine.specs.declared.degradation.DegradationAction.{Degradatio
 use Rattle.iox2_machine.specs.declared.key.Key.{Key}
 use Rattle.iox2_connections.specs.Mailboxes.{sender_ends}
 use Rattle.iox2_domain.specs.Boxes.{DomainBoxes}
-use Rattle.iox2_domain.specs.Fields.{Fields, blocked_send, keeping, kept_of, numbers_of, publisher_of}
+use Rattle.iox2_domain.specs.Fields.{Fields, blocked_send, keeping, kept_of, number_in_slot, publisher_of}
 use Rattle.iox2_domain.specs.Handlers.{may_fail, may_fail_update}
 use Rattle.iox2_domain.specs.Invariant.{IsDomain}
 use Rattle.iox2_domain.specs.Kept.{Kept, state_of}
@@ -104,4 +104,4 @@ module _ {T U F G : Type 0} {boxes : DomainBoxes F G} (f : Fields T U) (sound : 
       subst (λ (k : Kept T U F G). IsTrue answer ↔ NeverWaits k (publisher_key it)) view
       (never-waits-tests (keeping boxes f) (publisher_key it) port inside ((sound.well_formed).publishers it.id port inside).is_known answer
       (is ∙ ap (λ (b : Bool). is_never_hindered (f.config).enable_safe_overflow b (at.0).strategy (at.0).backpressure_handler (at.0).degradation_handler)
-      (waits-alike (blocked_send (numbers_of f.books (at.0).id) (sender_ends f.connections (at.0).keys)) (at.0).blocked)))
+      (waits-alike (blocked_send (number_in_slot f.books (at.0).id) (sender_ends f.connections (at.0).keys)) (at.0).blocked)))

@@ -23,7 +23,7 @@ use Rattle.iox2_laws.proofs.Puts.{put_at-same, put_at-other}
 use Rattle.iox2_domain.specs.Kept.{Kept, state_of}
 use Rattle.iox2_domain.specs.Shows.{Shows}
 use Rattle.iox2_pubsub.specs.Live.{IsAtConnection, WaitsAsBefore}
-use Rattle.iox2_pubsub.specs.SendCalls.{SendsToConnection, messages_after, result_of_send}
+use Rattle.iox2_pubsub.specs.SendCalls.{SendsToConnection, messages_after_send, result_of_send}
 use Rattle.iox2_pubsub.specs.declared.send_outcome.SendOutcome.{SendOutcome}
 use Rattle.iox2_pubsub.specs.declared.subscriber.Subscriber.{Subscriber}
 use Rattle.iox2_pubsub.proofs.ConnectedCounts.{TouchesOnly, goes-on-touches}
@@ -89,7 +89,7 @@ one-or-none (Some r ∷ rest) zero q away = absent_one r q (λ same. away (ap (�
 one-or-none (end ∷ rest) (suc place) q away = one-or-none rest place q away
 
 module _ {T U F G : Type 0} (old new : Kept T U F G) (m : Messages T U) (s : State T U) (shown : Shows old m s) (environment : Environment) (n : ℕ) (l : Loan T U) (out : s.loans n ≡ Some l) (p : ℕ) (its : l.publisher ≡ p)
-    (channel place : ℕ) (result : Result SendOutcome SendError) (s' : State T U) (shown' : Shows new (messages_after m n l result) s') (h : SendsToConnection environment s n l channel place result s') where
+    (channel place : ℕ) (result : Result SendOutcome SendError) (s' : State T U) (shown' : Shows new (messages_after_send m n l result) s') (h : SendsToConnection environment s n l channel place result s') where
   abbrev Kept-apart : Subscriber → Type 0
   Kept-apart other = TouchesOnly s s' l.publisher × ((s'.mailboxes l.publisher other.id).waiting ≡ (s.mailboxes l.publisher other.id).waiting)
 
@@ -142,7 +142,7 @@ module _ {T U F G : Type 0} (old new : Kept T U F G) (m : Messages T U) (s : Sta
   pub sends-to-alone : (other : Subscriber) → (channel ≡ 0 → IsAtConnection old p place other → ⊥) → WaitsAsBefore old new other
   sends-to-alone other away =
       let it = apart other away in
-      as-waits old new m (messages_after m n l result) s s' shown shown' (sent-before-stays m n l result (shown.unsent n l out)) l.publisher it.0 other it.1
+      as-waits old new m (messages_after_send m n l result) s s' shown shown' (sent-before-stays m n l result (shown.unsent n l out)) l.publisher it.0 other it.1
 
 -- at one connection stands one subscriber
 pub one-at-connection : {T U F G : Type 0} (domain : Kept T U F G) (p connection : ℕ) (first second : Subscriber) → IsAtConnection domain p connection first → IsAtConnection domain p connection second → first.id ≡ second.id

@@ -13,7 +13,7 @@ use Rattle.iox2_domain.specs.KeptPlaces.{KeepsPlaces}
 use Rattle.iox2_domain.specs.LoanSlots.{LiesInSlot}
 use Rattle.iox2_domain.proofs.lemmas.loans.LoanSlots.{live-lies}
 use Rattle.iox2_domain.proofs.lemmas.slots.Messages.{has_number, held-message, lies_at, loan-there, map_from_zero-at, message_at-book, messages_in-at}
-use Rattle.iox2_pubsub.specs.Live.{IsPlaced, IsUnwritten, IsWritten, LiesAt, unwritten_key, written_key}
+use Rattle.iox2_pubsub.specs.Live.{IsPlaced, IsUnwritten, IsWritten, MessageLiesAt, unwritten_key, written_key}
 use Rattle.iox2_pubsub.specs.declared.sample_mut.SampleMut.{SampleMut}
 use Rattle.iox2_pubsub.specs.declared.sample_mut_uninit.SampleMutUninit.{SampleMutUninit}
 use Rattle.iox2_pubsub.proofs.LiveParts.{loan-parts}
@@ -40,12 +40,12 @@ module _ {T U : Type 0} (f : Fields T U) where
 
 module _ {T U F G : Type 0} (boxes : DomainBoxes F G) (f : Fields T U) where
   -- a slot in which a message lies is in use, with its number
-  pub lies-numbered : (key slot n : ℕ) → LiesAt (keeping boxes f) key slot n → HasNumber f.books key slot n
+  pub lies-numbered : (key slot n : ℕ) → MessageLiesAt (keeping boxes f) key slot n → HasNumber f.books key slot n
   lies-numbered key slot n lies =
       has_number f.contents f.books key slot n lies.message (sym (slot-kept f key lies.book slot lies.has_book) ∙ lies.has_message) lies.numbered
 
   -- and in each slot in use lies one
-  pub numbered-lies : IsDomain f → (key slot n : ℕ) → HasNumber f.books key slot n → LiesAt (keeping boxes f) key slot n
+  pub numbered-lies : IsDomain f → (key slot n : ℕ) → HasNumber f.books key slot n → MessageLiesAt (keeping boxes f) key slot n
   numbered-lies sound key slot n has =
       let m = held-message f.contents f.books key slot n (λ b at. sound.parts.books.books key b at) has in
       let there = message_at-book f.contents f.books key slot m.0 m.1 in

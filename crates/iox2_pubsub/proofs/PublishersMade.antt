@@ -20,7 +20,7 @@ use Rattle.iox2_pubsub.specs.Live.{IsConnected, IsNewIn, IsReadyPublisher, IsSub
 use Rattle.iox2_pubsub.specs.Factories.{with_slots}
 use Rattle.iox2_pubsub.specs.Leaves.{LeavesNoFewer}
 use Rattle.iox2_pubsub.specs.LoansLeft.{GrowsBy, HasLoansLeft, LendsFirst}
-use Rattle.iox2_pubsub.specs.MadePublishers.{IsMade}
+use Rattle.iox2_pubsub.specs.MadePublishers.{IsMadePublisher}
 use Rattle.iox2_pubsub.specs.declared.publisher.Publisher.{Publisher}
 use Rattle.iox2_pubsub.specs.declared.subscriber.Subscriber.{Subscriber}
 use Rattle.iox2_pubsub.proofs.CallsStay.{always-shown, apart-from-next, publisher-creation-stays, publisher-is-new}
@@ -74,7 +74,7 @@ module _ {T U F G : Type 0} {boxes : DomainBoxes F G} {publishers : List (PortBo
 
 -- how many slots were asked for says nothing of a publisher that was made
 pub made-unasked : {T U F G : Type 0} (given : PublisherSettings) (asked : Option ℕ) (box : Option F) (degrading : Option G) (port : Publisher) (old new : Kept T U F G)
-    → IsMade (with_slots given asked) box degrading port old new → IsMade given box degrading port old new
+    → IsMadePublisher (with_slots given asked) box degrading port old new → IsMadePublisher given box degrading port old new
 made-unasked given asked box degrading port old after made = record {
   grows = made.grows;
   ready = made.ready;

@@ -21,7 +21,7 @@ use Rattle.iox2_laws.proofs.Cases.{by_option, by_bool}
 use Rattle.iox2_laws.proofs.Puts.{put_at-same}
 use Rattle.iox2_domain.specs.Kept.{Kept, state_of}
 use Rattle.iox2_pubsub.specs.BlockedSends.{StaysSince, places_ahead, receivers_ahead}
-use Rattle.iox2_pubsub.specs.Live.{StaysBut, blocked_send}
+use Rattle.iox2_pubsub.specs.Live.{StaysBut, blocked_item}
 use Rattle.iox2_pubsub.proofs.StaysBut.{stays-twice}
 use Rattle.iox2_pubsub.specs.SendCalls.{IfBlocked, result_of_send}
 use Rattle.iox2_pubsub.specs.declared.blocked_send.BlockedSend.{BlockedSend as Handle}
@@ -116,6 +116,6 @@ where-blocked P blocked (Ok (Blocked it)) is holds = subst P (sym is) (holds ref
 where-blocked P blocked (Err error) is holds = tt
 
 -- where it is blocked again, what was there before it blocked is there when that has ended
-pub since-again : {T U F G : Type 0} (old new : Kept T U F G) (blocked : Handle) → StaysBut (blocked_send blocked) old new → (after : Kept T U F G) → StaysSince blocked new after → StaysSince blocked old after
+pub since-again : {T U F G : Type 0} (old new : Kept T U F G) (blocked : Handle) → StaysBut (blocked_item blocked) old new → (after : Kept T U F G) → StaysSince blocked new after → StaysSince blocked old after
 unfolding StaysSince
-since-again old new blocked stays after since before unwaiting stood = since before unwaiting (stays-twice (blocked_send blocked) before old new stood stays)
+since-again old new blocked stays after since before unwaiting stood = since before unwaiting (stays-twice (blocked_item blocked) before old new stood stays)

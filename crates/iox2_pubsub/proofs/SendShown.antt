@@ -18,7 +18,7 @@ use Rattle.iox2_machine.specs.machine.Mailbox.{Mailbox}
 use Rattle.iox2_machine.specs.declared.key.Key.{Key}
 use Rattle.iox2_laws.proofs.Waits.{waits_trans, update_publisher_waits, published_waits}
 use Rattle.iox2_domain.specs.Kept.{Kept}
-use Rattle.iox2_pubsub.specs.Live.{A_blocked_send, HasLender, IsBlockedSend, NeverFails, NeverWaits, blocked_key, blocked_send}
+use Rattle.iox2_pubsub.specs.Live.{A_blocked_send, HasLender, IsBlockedSend, NeverFails, NeverWaits, blocked_key, blocked_item}
 use Rattle.iox2_pubsub.proofs.LiveParts.{passes-parts, unfailed-parts}
 use Rattle.iox2_pubsub.proofs.SteadyUpdates.{steady-send}
 use Rattle.iox2_pubsub.proofs.OverflowSends.{overflowing-send}
@@ -36,13 +36,13 @@ use Rattle.iox2_domain.specs.Boxes.{DomainBoxes}
 use Rattle.iox2_domain.specs.Fields.{Fields, kept_of, keeping}
 use Rattle.iox2_domain.specs.Invariant.{IsDomain}
 use Rattle.iox2_domain.specs.Kept.{state_of, entries_of}
-use Rattle.iox2_domain.specs.SentLoans.{SendsLoan}
+use Rattle.iox2_domain.specs.SentLoans.{SendsKeptLoan}
 use Rattle.iox2_messages.specs.SendEnds.{IsKept, IsNotLost, end_result}
 use Rattle.iox2_messages.specs.declared.send_end.SendEnd.{SendEnd}
 use Rattle.iox2_domain.specs.Shows.{Shows}
 use Rattle.std.specs.declared.result.Result.{Result}
 use Rattle.std.specs.declared.result.Result.TheVariants.{Ok, Err}
-use Rattle.iox2_pubsub.specs.SendCalls.{FailsCopy, FailsSend, IsDelivered, IsOfHandler, IfBlocked, messages_after, result_of_send}
+use Rattle.iox2_pubsub.specs.SendCalls.{FailsCopy, FailsSend, IsDelivered, IsOfHandler, IfBlocked, messages_after_send, result_of_send}
 use Rattle.iox2_pubsub.specs.declared.send_outcome.SendOutcome.{SendOutcome}
 
 -- What a send of the loan n, in whichever way, leaves of the domain.
@@ -122,14 +122,14 @@ module _ {T U : Type 0} (f g : Fields T U) (n : ℕ) (result : SendResult) (send
         by false e = refl
 
   -- either way
-  pub leaves-shown : (outcome : Result SendOutcome SendError) → result ≡ result_of_send outcome → Shows (kept_of g) (messages_after m n l outcome) (state_of (kept_of g))
+  pub leaves-shown : (outcome : Result SendOutcome SendError) → result ≡ result_of_send outcome → Shows (kept_of g) (messages_after_send m n l outcome) (state_of (kept_of g))
   leaves-shown (Ok delivered) is = send-shown
   leaves-shown (Err error) is = elim (after-error m n l error) [
     | inl sent ↦ subst (λ (k : Messages T U). Shows (kept_of g) k (state_of (kept_of g))) (sym sent.1) send-shown
     | inr lost ↦ subst (λ (k : Messages T U). Shows (kept_of g) k (state_of (kept_of g))) (sym lost.1) (lost-shown error lost.0 is)
   ]
 
-module _ {T U : Type 0} (environment : Environment) (f g : Fields T U) (n : ℕ) (result : SendResult) (sends : SendsLoan environment f g n result) where
+module _ {T U : Type 0} (environment : Environment) (f g : Fields T U) (n : ℕ) (result : SendResult) (sends : SendsKeptLoan environment f g n result) where
   -- what a send leaves
   abbrev pub leaves-sent : LeavesSent f g n result
   leaves-sent = record {
@@ -169,7 +169,7 @@ steady-ok SendEnd.Lost there unfailed steady (Err error) is = absurd there
 steady-ok (SendEnd.Unconnected failure) there unfailed steady (Err error) is = absurd (steady failure refl)
 
 -- a send of a loan whose publisher's handler fails none
-pub never-fails-here : {T U F G : Type 0} {boxes : DomainBoxes F G} (environment : Environment) (old : Kept T U F G) (f g : Fields T U) → keeping boxes f ≡ old → (n p : ℕ) → NeverFails old p → (result : SendResult) (sends : SendsLoan environment f g n result)
+pub never-fails-here : {T U F G : Type 0} {boxes : DomainBoxes F G} (environment : Environment) (old : Kept T U F G) (f g : Fields T U) → keeping boxes f ≡ old → (n p : ℕ) → NeverFails old p → (result : SendResult) (sends : SendsKeptLoan environment f g n result)
     → (sends.loan).publisher ≡ p → result ≡ Send_error UnableToDeliver → ⊥
 never-fails-here {T} {U} {F} {G} environment old f g same n p never result sends its = elim (unfailed-parts old p never).1 [
   | inl over ↦ (overflowing-send environment (state_of (kept_of f)) n sends.loan (state_of (kept_of g)) result (ap (λ (k : Kept T U F G). (k.config).enable_safe_overflow) same ∙ over) sends.sends).1
@@ -177,7 +177,7 @@ never-fails-here {T} {U} {F} {G} environment old f g same n p never result sends
 ]
 
 -- nor does it fail one before it is sent
-pub never-unconnected-here : {T U F G : Type 0} {boxes : DomainBoxes F G} (environment : Environment) (old : Kept T U F G) (f g : Fields T U) → keeping boxes f ≡ old → (n p : ℕ) → NeverFails old p → (result : SendResult) (sends : SendsLoan environment f g n result)
+pub never-unconnected-here : {T U F G : Type 0} {boxes : DomainBoxes F G} (environment : Environment) (old : Kept T U F G) (f g : Fields T U) → keeping boxes f ≡ old → (n p : ℕ) → NeverFails old p → (result : SendResult) (sends : SendsKeptLoan environment f g n result)
     → (sends.loan).publisher ≡ p → (failure : ConnectionFailure) → result ≡ Send_error (ConnectionError failure) → ⊥
 never-unconnected-here {T} {U} {F} {G} environment old f g same n p never result sends its failure =
     steady-send environment (state_of (kept_of f)) (state_of (kept_of g)) n sends.loan result
@@ -195,7 +195,7 @@ handler-error (SendEnd.Unconnected failure) there (Err error) is = inr (failure,
 
 -- and else that it is gone
 pub either-error : {T U : Type 0} (environment : Environment) (f g : Fields T U) (n p : ℕ) (end : SendEnd) → (HoldsPublisher (state_of (kept_of f)) p → IsNotLost end)
-    → (sends : SendsLoan environment f g n (end_result end)) → sends.loan.publisher ≡ p
+    → (sends : SendsKeptLoan environment f g n (end_result end)) → sends.loan.publisher ≡ p
     → (outcome : Result SendOutcome SendError) → result_of_send outcome ≡ end_result end → IfErr outcome (λ error. (error ≡ ConnectionBrokenSinceSenderNoLongerExists) ⊎ IsOfHandler error)
 either-error {T} {U} environment f g n p end there sends its (Ok delivered) is = tt
 either-error {T} {U} environment f g n p end there sends its (Err error) is =
@@ -205,7 +205,7 @@ either-error {T} {U} environment f g n p end there sends its (Err error) is =
 
 -- a send whose publisher is there, and whose handlers fail none, succeeds, and so each error is that it is gone
 pub only-error : {T U : Type 0} (environment : Environment) (f g : Fields T U) (n p : ℕ) (end : SendEnd) → (HoldsPublisher (state_of (kept_of f)) p → IsNotLost end)
-    → (sends : SendsLoan environment f g n (end_result end)) → sends.loan.publisher ≡ p
+    → (sends : SendsKeptLoan environment f g n (end_result end)) → sends.loan.publisher ≡ p
     → (end_result end ≡ Send_error UnableToDeliver → ⊥) → ((failure : ConnectionFailure) → end_result end ≡ Send_error (ConnectionError failure) → ⊥)
     → (outcome : Result SendOutcome SendError) → result_of_send outcome ≡ end_result end → IfErr outcome (λ error. error ≡ ConnectionBrokenSinceSenderNoLongerExists)
 only-error {T} {U} environment f g n p end there sends its never steady (Ok delivered) is = tt
@@ -256,7 +256,7 @@ is-blocked kept key blocked is_key (Err error) is waits = tt
 
 -- what is sent under the loan's number is its entry
 pub sent-entry : {T U : Type 0} (m : Messages T U) (n : ℕ) (l : Loan T U) (outcome : Result SendOutcome SendError) → m n ≡ None
-    → (entry : Entry T U) → messages_after m n l outcome n ≡ Some entry → entry ≡ entry_of l
+    → (entry : Entry T U) → messages_after_send m n l outcome n ≡ Some entry → entry ≡ entry_of l
 sent-entry m n l (Ok delivered) unsent entry at =
     let both : Some entry ≡ Some (entry_of l) = sym at ∙ put_at-same m n (Some (entry_of l)) in
     cc
@@ -269,7 +269,7 @@ sent-entry {T} {U} m n l (Err error) unsent entry at = elim (after-error m n l e
 
 -- and whose it is
 pub whose-blocked : {T U F G : Type 0} (kept : Kept T U F G) (key : Key) (id : ℕ) → key.port ≡ id → (outcome : Result SendOutcome SendError)
-    → IfOk outcome (λ came. IfBlocked came (λ it. IsBlockedSend kept it × (blocked_key it ≡ key))) → IfOk outcome (λ came. IfBlocked came (λ it. blocked_send it ≡ A_blocked_send id))
+    → IfOk outcome (λ came. IfBlocked came (λ it. IsBlockedSend kept it × (blocked_key it ≡ key))) → IfOk outcome (λ came. IfBlocked came (λ it. blocked_item it ≡ A_blocked_send id))
 whose-blocked kept key id its (Ok (Delivered count)) is = tt
 whose-blocked kept key id its (Ok (Blocked it)) is = ap (λ (k : Key). A_blocked_send k.port) is.1 ∙ ap A_blocked_send its
 whose-blocked kept key id its (Err error) is = tt

@@ -14,7 +14,7 @@ use Rattle.iox2_laws.proofs.SendsRemain.{send_remains}
 use Rattle.iox2_domain.specs.Kept.{Kept, state_of}
 use Rattle.iox2_domain.specs.Shows.{Shows}
 use Rattle.iox2_pubsub.specs.Live.{HasItsBuffer, IsBlockedSend, IsConnected, IsServedOrPending, WaitingStays, blocked_key}
-use Rattle.iox2_pubsub.specs.SendCalls.{IfBlocked, Sends, messages_after}
+use Rattle.iox2_pubsub.specs.SendCalls.{IfBlocked, Sends, messages_after_send}
 use Rattle.iox2_pubsub.specs.Slices.{HasValues}
 use Rattle.iox2_pubsub.specs.declared.send_outcome.SendOutcome.{SendOutcome}
 use Rattle.iox2_pubsub.specs.declared.send_outcome.SendOutcome.TheVariants.{Blocked, Delivered}
@@ -29,7 +29,7 @@ use Rattle.iox2_pubsub.proofs.SentMessages.{sent-before-stays}
 use Rattle.iox2_pubsub.proofs.UpToDateShown.{connected-in}
 
 module _ {T U F G : Type 0} (old new : Kept T U F G) (m : Messages T U) (s : State T U) (environment : Environment) (shown : Shows old m s) where
-  pub send-pends : (n : ℕ) (l : Loan T U) (p : ℕ) (result : Result SendOutcome SendError) (s' : State T U) → Shows new (messages_after m n l result) s' → Sends environment s n l result s' → m n ≡ None
+  pub send-pends : (n : ℕ) (l : Loan T U) (p : ℕ) (result : Result SendOutcome SendError) (s' : State T U) → Shows new (messages_after_send m n l result) s' → Sends environment s n l result s' → m n ≡ None
       → s.loans n ≡ Some l → l.publisher ≡ p → is_blocked (state_of old) p ≡ false → (key : Key) → key.port ≡ p → key.message ≡ n
       → IfOk result (λ outcome. IfBlocked outcome (λ blocked. IsBlockedSend new blocked × (blocked_key blocked ≡ key)))
       → (subscriber : Subscriber) (values : List T) → IsConnected old p subscriber → HasValues old n values

@@ -7,7 +7,7 @@ use Rattle.iox2_machine.specs.declared.key.Key.{Key}
 use Rattle.iox2_machine.specs.declared.service_config.ServiceConfig.{ServiceConfig}
 use Rattle.iox2_domain.specs.Kept.{Kept, state_of}
 use Rattle.iox2_pubsub.specs.BlockedSends.{IsNext, IsNotNext, StaysSince, waits_for}
-use Rattle.iox2_pubsub.specs.Live.{A_blocked_send, HasItsBuffer, IsAtConnection, IsFull, IsServed, IsServedOrPending, IsUnblocked, Stays, StaysBut, WaitsAsBefore, blocked_key, blocked_send, lender_key, payloads_from, waiting}
+use Rattle.iox2_pubsub.specs.Live.{A_blocked_send, HasItsBuffer, IsAtConnection, IsFull, IsServed, IsServedOrPending, IsUnblocked, Stays, StaysBut, WaitsAsBefore, blocked_key, blocked_item, lender_key, payloads_from, waiting}
 use Rattle.iox2_pubsub.specs.RoomyPublishers.{HasRoomAt}
 use Rattle.iox2_pubsub.specs.declared.blocked_send.BlockedSend.{BlockedSend}
 use Rattle.iox2_pubsub.specs.declared.subscriber.Subscriber.{Subscriber}
@@ -100,16 +100,16 @@ next_or_not domain blocked subscriber = by (waits_for (state_of domain) blocked.
 
 module _ {T U F G : Type 0} (old mid new : Kept T U F G) (blocked : BlockedSend) where
   -- where a send has ended since it was blocked, all stays that was there before it
-  pub stays_then : IsUnblocked old (lender_key (blocked_key blocked)) → StaysBut (blocked_send blocked) old mid → StaysSince blocked mid new → Stays old new
+  pub stays_then : IsUnblocked old (lender_key (blocked_key blocked)) → StaysBut (blocked_item blocked) old mid → StaysSince blocked mid new → Stays old new
   unfolding StaysSince
   stays_then free stood since = since old free stood
 
   -- and so it is with a send that was blocked again
-  pub stays_since : (waiting : BlockedSend) → blocked_key blocked ≡ blocked_key waiting → StaysBut (blocked_send waiting) old mid → StaysSince blocked mid new → StaysSince waiting old new
+  pub stays_since : (waiting : BlockedSend) → blocked_key blocked ≡ blocked_key waiting → StaysBut (blocked_item waiting) old mid → StaysSince blocked mid new → StaysSince waiting old new
   unfolding StaysSince
   stays_since waiting same stood since = λ before free stays.
       since before (subst (λ (k : Key). IsUnblocked before (lender_key k)) (sym same) free)
-      (subst (λ (k : Key). StaysBut (A_blocked_send k.port) before mid) (sym same) (stays_but_twice before old mid (blocked_send waiting) stays stood))
+      (subst (λ (k : Key). StaysBut (A_blocked_send k.port) before mid) (sym same) (stays_but_twice before old mid (blocked_item waiting) stays stood))
 
 -- ---- connections
 

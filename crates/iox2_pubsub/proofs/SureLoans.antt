@@ -7,7 +7,7 @@ use Rattle.std.specs.Prelude.{IsSomeAnd, false}
 use Rattle.iox2_contents.specs.SlotContents.{ContentState}
 use Rattle.iox2_machine.specs.machine.Limits.{buffer_limit, channel_count, worst_case, last_number}
 use Rattle.iox2_machine.specs.machine.Loans.{GrantLoan, is_static}
-use Rattle.iox2_machine.specs.machine.LoansLeft.{CanLend, LendsValues}
+use Rattle.iox2_machine.specs.machine.LoansLeft.{CanLend, LendsWithoutGrowth}
 use Rattle.iox2_machine.specs.machine.Records.{Publisher}
 use Rattle.iox2_machine.specs.machine.State.{State}
 use Rattle.iox2_machine.specs.declared.errors.LoanError.{LoanError}
@@ -30,7 +30,7 @@ use Rattle.iox2_pubsub.specs.declared.publisher.Publisher.{Publisher as Publishe
 pub record IsSureOfLoan {T U F G : Type 0} (domain : Kept T U F G) (publisher : PublisherHandle) : Type 0 where
   pub port : Publisher
   pub stands : (state_of domain).publishers publisher.id ≡ Some port
-  pub values : LendsValues (state_of domain) port
+  pub values : LendsWithoutGrowth (state_of domain) port
   pub slots : worst_case domain.config port.max_loaned_samples ≤ port.slots
   pub few : length port.loans < port.max_loaned_samples
   pub longest : port.initial_max_slice_len ≡ publisher.initial_max_slice_len
@@ -76,7 +76,7 @@ module _ {T U : Type 0} where
         first_header (get_or f.contents x.book None) (length (has.book).holders) (omega (arith, some, has.slots)) ((sound.parts.books).books x.book has.book has.stands).shaped
 
     -- a loan of that length is one that the publisher's first segment is long enough for
-    short_enough : (checks : Bool) (len : ℕ) (port : Publisher) → LendsValues state port → (checks ≡ true → len ≤ port.initial_max_slice_len) → (checks ≡ false → (f.config).variant ≡ FixedSize)
+    short_enough : (checks : Bool) (len : ℕ) (port : Publisher) → LendsWithoutGrowth state port → (checks ≡ true → len ≤ port.initial_max_slice_len) → (checks ≡ false → (f.config).variant ≡ FixedSize)
         → ((f.config).variant ≡ FixedSize → len ≡ 1) → is_static port.allocation_strategy ≡ false → len ≤ port.initial_max_slice_len
     short_enough true len port values short unchecked single grows = short refl
     short_enough false len port values short unchecked single grows =

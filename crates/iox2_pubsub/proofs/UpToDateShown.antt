@@ -21,7 +21,7 @@ use Rattle.iox2_domain.specs.Lending.{LoanCall, loan_memory}
 use Rattle.iox2_domain.specs.Questions.{IsAnswer}
 use Rattle.iox2_domain.specs.Shows.{Shows}
 use Rattle.iox2_pubsub.specs.ConnectedPorts.{Connects}
-use Rattle.iox2_pubsub.specs.DepartedPorts.{HasRoom}
+use Rattle.iox2_pubsub.specs.DepartedPorts.{HasDepartedRoom}
 use Rattle.iox2_pubsub.specs.Live.{HasRoomFor, IsConnected, IsLiveSubscriber, IsUpToDate, RoomStays, UpToDateStay}
 use Rattle.iox2_pubsub.specs.UpdateCalls.{returned_failure}
 use Rattle.iox2_pubsub.specs.declared.subscriber.Subscriber.{Subscriber}
@@ -50,13 +50,13 @@ module _ {T U F G : Type 0} (kept : Kept T U F G) (m : Messages T U) (s : State 
   connected is = subst (λ (t : State T U). Connects t p subscriber.id) shown.state is
 
 module _ {T U F G : Type 0} (kept : Kept T U F G) (m : Messages T U) (s : State T U) (shown : Shows kept m s) (subscriber : Subscriber) (closes : ℕ) where
-  pub room-in : HasRoomFor kept subscriber closes → HasRoom s subscriber.id closes
+  pub room-in : HasRoomFor kept subscriber closes → HasDepartedRoom s subscriber.id closes
   unfolding HasRoomFor
-  room-in has = subst (λ (t : State T U). HasRoom t subscriber.id closes) (sym shown.state) has
+  room-in has = subst (λ (t : State T U). HasDepartedRoom t subscriber.id closes) (sym shown.state) has
 
-  pub room : HasRoom s subscriber.id closes → HasRoomFor kept subscriber closes
+  pub room : HasDepartedRoom s subscriber.id closes → HasRoomFor kept subscriber closes
   unfolding HasRoomFor
-  room has = subst (λ (t : State T U). HasRoom t subscriber.id closes) shown.state has
+  room has = subst (λ (t : State T U). HasDepartedRoom t subscriber.id closes) shown.state has
 
 module _ {T U F G : Type 0} (old new : Kept T U F G) (m m' : Messages T U) (s s' : State T U) (shown : Shows old m s) (shown' : Shows new m' s') where
   -- where each subscriber has as much room in the machine

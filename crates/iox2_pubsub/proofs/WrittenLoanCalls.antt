@@ -12,8 +12,8 @@ use Rattle.iox2_machine.specs.machine.State.{State, Messages, with_loan}
 use Rattle.iox2_machine.specs.declared.errors.LoanError.{LoanError}
 use Rattle.iox2_machine.specs.declared.errors.SendError.{SendError}
 use Rattle.iox2_domain.specs.Lending.{loan_memory}
-use Rattle.iox2_pubsub.specs.SendCalls.{IsOfHandler, Sends, messages_after}
-use Rattle.iox2_pubsub.specs.WrittenLoans.{SendsCopy, SendsGranted}
+use Rattle.iox2_pubsub.specs.SendCalls.{IsOfHandler, Sends, messages_after_send}
+use Rattle.iox2_pubsub.specs.WrittenLoans.{SendsValue, SendsLentValue}
 use Rattle.iox2_pubsub.specs.declared.send_outcome.SendOutcome.{SendOutcome}
 
 module _ {T U : Type 0} (s mid : State T U) (p n : ℕ) (next : n ≡ s.next_message) (l : Loan T U) (out : mid.loans n ≡ Some l) (value : T) (user_header : U)
@@ -36,7 +36,7 @@ module _ {T U : Type 0} (s mid : State T U) (p n : ℕ) (next : n ≡ s.next_mes
 
   -- and sent
   copy-granted : (environment : Environment) (is_default : U → Type 0) → is_default user_header → (m : Messages T U) (number : ℕ) → number ≡ n → (result : Result SendOutcome SendError) (s' : State T U)
-      → Sends environment with_value number (written l value) result s' → SendsGranted environment is_default m s p value result (messages_after m number (written l value) result) s'
+      → Sends environment with_value number (written l value) result s' → SendsLentValue environment is_default m s p value result (messages_after_send m number (written l value) result) s'
   copy-granted environment is_default default m number same result s' sends = record {
     user_header = user_header;
     default = default;
@@ -45,12 +45,12 @@ module _ {T U : Type 0} (s mid : State T U) (p n : ℕ) (next : n ≡ s.next_mes
     loan = written l value;
     out = ap with_value.loans (sym next) ∙ written-out;
     sends = subst (λ (k : ℕ). Sends environment with_value k (written l value) result s') (same ∙ next) sends;
-    messages = ap (λ (k : ℕ). messages_after m k (written l value) result) (same ∙ next);
+    messages = ap (λ (k : ℕ). messages_after_send m k (written l value) result) (same ∙ next);
   }
 
   pub copy-sent : (environment : Environment) (is_default : U → Type 0) → is_default user_header → (m : Messages T U) (number : ℕ) → number ≡ n → (result : Result SendOutcome SendError)
       → IfErr result IsOfHandler → (s' : State T U)
-      → Sends environment with_value number (written l value) result s' → SendsCopy environment is_default m s p value result (messages_after m number (written l value) result) s'
+      → Sends environment with_value number (written l value) result s' → SendsValue environment is_default m s p value result (messages_after_send m number (written l value) result) s'
   copy-sent environment is_default default m number same (Ok outcome) failed s' sends = copy-granted environment is_default default m number same (Ok outcome) s' sends
   copy-sent environment is_default default m number same (Err e) failed s' sends = inl (failed, copy-granted environment is_default default m number same (Err e) s' sends)
 

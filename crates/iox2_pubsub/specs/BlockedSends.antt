@@ -11,7 +11,7 @@ use Rattle.iox2_machine.specs.declared.errors.SendError.{SendError}
 use Rattle.iox2_machine.specs.declared.errors.SendError.TheVariants.{UnableToDeliver}
 use Rattle.iox2_domain.specs.Kept.{Kept, state_of}
 use Rattle.iox2_pubsub.specs.Handles.{blocked_sender, buffer_size_of, written_lender}
-use Rattle.iox2_pubsub.specs.Live.{AddAtMost, AllFrom, HasItsBuffer, HasPassed, IsBlockedSend, IsConnected, IsPending, IsServed, IsServedOrPending, IsUnblocked, NeverFails, OthersSend, Stays, StaysBut, UpToDateStay, WaitsAsBefore, blocked_key, blocked_send, lender_key, written_key}
+use Rattle.iox2_pubsub.specs.Live.{AddAtMost, AllFrom, HasItsBuffer, HasPassed, IsBlockedSend, IsConnected, IsPending, IsServed, IsServedOrPending, IsUnblocked, NeverFails, OthersSend, Stays, StaysBut, UpToDateStay, WaitsAsBefore, blocked_key, blocked_item, lender_key, written_key}
 use Rattle.iox2_pubsub.specs.BorrowsLeft.{BorrowsLeftStay}
 use Rattle.iox2_pubsub.specs.LoansLeft.{HasOneMoreLeft, LoansLeftStay}
 use Rattle.iox2_pubsub.specs.RoomyPublishers.{HasRoomAt}
@@ -45,12 +45,12 @@ module _ {T U F G : Type 0} where
   -- What was live before a send blocked is live and reads as it did then: before means a state in which no send of its publisher
   -- was blocked, and from which all except the blocked send stayed.
   unfoldable pub StaysSince : BlockedSend → (old new : Kept T U F G) → Type 0
-  StaysSince blocked old new = (before : Kept T U F G) → IsUnblocked before (lender_key (blocked_key blocked)) → StaysBut (blocked_send blocked) before old → Stays before new
+  StaysSince blocked old new = (before : Kept T U F G) → IsUnblocked before (lender_key (blocked_key blocked)) → StaysBut (blocked_item blocked) before old → Stays before new
 
   -- The blocked send went on, and ended so or is blocked again, under the same key. It fails only if a handler fails
   -- it. When it has ended its publisher is free again and has one loan more left, and what was live before the send
   -- blocked is live.
-  pub record GoesOn (waited : BlockedSend) (result : Result SendOutcome SendError) (old new : Kept T U F G) : Type 0 where
+  pub record BlockedSendGoesOn (waited : BlockedSend) (result : Result SendOutcome SendError) (old new : Kept T U F G) : Type 0 where
     pub blocked : IfOk result (λ outcome. IfBlocked outcome (λ again. IsBlockedSend new again × (blocked_key again ≡ blocked_key waited)))
     pub ok : NeverFails old (blocked_sender waited) → IsOk result
     pub failed : IfErr result (λ error. error ≡ UnableToDeliver)
@@ -61,7 +61,7 @@ module _ {T U F G : Type 0} where
     pub loans_left : LoansLeftStay old new
     pub borrows_left : BorrowsLeftStay old new
     pub given_back : IfOk result IsDelivered → HasOneMoreLeft (blocked_sender waited) old new
-    pub stays : StaysBut (blocked_send waited) old new
+    pub stays : StaysBut (blocked_item waited) old new
     pub stays_since : IfOk result IsDelivered → StaysSince waited old new
     pub since_again : IfOk result (λ outcome. IfBlocked outcome (λ again. (after : Kept T U F G) → StaysSince again new after → StaysSince waited old after))
 

@@ -22,5 +22,5 @@ module _ {T U : Type 0} where
   departed_at s q = option_map_or (departed_of s) (s.subscribers q) 0
 
   -- The subscriber q can keep what waits from each closed publisher, even if that many more publishers are closed.
-  abbrev pub HasRoom : State T U → (q closes : ℕ) → Type 0
-  HasRoom s q closes = departed_at s q + closes ≤ expired_limit s.config
+  abbrev pub HasDepartedRoom : State T U → (q closes : ℕ) → Type 0
+  HasDepartedRoom s q closes = departed_at s q + closes ≤ expired_limit s.config

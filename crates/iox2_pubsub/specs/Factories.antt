@@ -37,8 +37,8 @@ with_slots settings asked = record settings { asked_slots = asked }
 
 -- What is asked for, by an override that may answer so: it is given the worst case. If that doesn't fit a machine word
 -- it isn't asked, and no publisher is made.
-abbrev pub AsksFor : (answers : ℕ → ℕ → Type 0) → (worst : ℕ) → Option ℕ → Type 0
-AsksFor answers worst asked = MatchBool (fits worst) ((slots : ℕ) × answers worst slots × (asked ≡ Some slots)) (asked ≡ None)
+abbrev pub AsksForSlots : (answers : ℕ → ℕ → Type 0) → (worst : ℕ) → Option ℕ → Type 0
+AsksForSlots answers worst asked = MatchBool (fits worst) ((slots : ℕ) × answers worst slots × (asked ≡ Some slots)) (asked ≡ None)
 
 -- An override that may answer so never asks for fewer slots than the worst case.
 abbrev pub AsksForAll : (answers : ℕ → ℕ → Type 0) → (worst : ℕ) → Type 0

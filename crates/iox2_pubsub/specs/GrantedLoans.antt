@@ -6,7 +6,7 @@ use Rattle.iox2_machine.specs.declared.key.Key.{Key}
 use Rattle.iox2_machine.specs.declared.service_config.TypeVariant.TheVariants.{Dynamic}
 use Rattle.iox2_domain.specs.Kept.{Kept}
 use Rattle.iox2_domain.specs.Lending.{header_for}
-use Rattle.iox2_pubsub.specs.Live.{A_loan, HasLender, IsNewIn, IsReadyPublisher, IsUnblocked, IsUnwritten, IsUnwrittenLoan, IsWritten, IsWrittenLoan, LoanHasHeader, NeverWaits, lender_key, publisher_key, unwritten_key, written_key}
+use Rattle.iox2_pubsub.specs.Live.{A_loan, HasLender, IsNewIn, IsReadyPublisher, IsUnblocked, IsUnwritten, NeverWaitsUnwritten, IsWritten, IsWrittenLoan, LoanHasHeader, NeverWaits, lender_key, publisher_key, unwritten_key, written_key}
 use Rattle.iox2_pubsub.specs.Slices.{HasUnwrittenCells}
 use Rattle.iox2_pubsub.specs.declared.publisher.Publisher.{Publisher}
 use Rattle.iox2_pubsub.specs.declared.sample_mut.SampleMut.{SampleMut}
@@ -30,7 +30,7 @@ pub record IsLent {T U F G : Type 0} (port : Publisher) (loan : Key) (old new : 
 -- The publisher has lent the loan, which isn't written. It is a live one if no send of the publisher is ever blocked, or failed by a handler.
 pub record IsLentUnwritten {T U F G : Type 0} (port : Publisher) (loan : SampleMutUninit) (old new : Kept T U F G) : Type 0 where
   pub out : IsUnwritten new loan
-  pub live : NeverWaits old (publisher_key port) → IsUnwrittenLoan new loan
+  pub live : NeverWaits old (publisher_key port) → NeverWaitsUnwritten new loan
   pub lent : IsLent port (unwritten_key loan) old new
 
 -- The publisher has lent the loan, which is written. It is a live one if no send of the publisher is ever blocked, or failed by a handler.
@@ -40,7 +40,7 @@ pub record IsLentWritten {T U F G : Type 0} (port : Publisher) (loan : SampleMut
   pub lent : IsLent port (written_key loan) old new
 
 -- The loan has `count` cells, all unwritten, and its header says that its publisher lent `len` elements.
-pub record IsUnfilled {T U F G : Type 0} (port : Publisher) (loan : SampleMutUninit) (len count : ℕ) (old new : Kept T U F G) : Type 0 where
+pub record HasOnlyUnwrittenCells {T U F G : Type 0} (port : Publisher) (loan : SampleMutUninit) (len count : ℕ) (old new : Kept T U F G) : Type 0 where
   pub cells : HasUnwrittenCells new loan.loan.number (replicate count None)
   pub lengths : (its : List (Option T)) → HasUnwrittenCells new loan.loan.number its → length its ≡ count
   pub header : LoanHasHeader new (unwritten_key loan) (header_for old.config port.id len)

@@ -20,7 +20,7 @@ use Rattle.iox2_domain.specs.Kept.{Kept, KeptBook, KeptMessage, is_numbered, sta
 use Rattle.iox2_domain.specs.LoanCalls.{HasLoanHeader, HasLoanUserHeader}
 use Rattle.iox2_domain.specs.Shows.{Shows}
 use Rattle.iox2_pubsub.specs.ConnectedPorts.{Awaits, Connects}
-use Rattle.iox2_pubsub.specs.DepartedPorts.{HasRoom}
+use Rattle.iox2_pubsub.specs.DepartedPorts.{HasDepartedRoom}
 use Rattle.iox2_pubsub.specs.Handlers.{may_wait}
 use Rattle.iox2_pubsub.specs.Payloads.{payload_of, payloads_for}
 use Rattle.iox2_pubsub.specs.PendingSends.{GoesTo, PassesBy}
@@ -131,7 +131,7 @@ module _ {T U F G : Type 0} (domain : Kept T U F G) where
   HasMark number is_written = (loan : Loan T U) × ((state_of domain).loans number ≡ Some loan) × (loan.is_written ≡ is_written)
 
   -- A message with this number lies in that slot of the book at that key.
-  pub record LiesAt (key slot number : ℕ) : Type 0 where
+  pub record MessageLiesAt (key slot number : ℕ) : Type 0 where
     pub book : KeptBook T U
     pub message : KeptMessage T U
     pub has_book : slice_index_or domain.books key None ≡ Some book
@@ -140,7 +140,7 @@ module _ {T U F G : Type 0} (domain : Kept T U F G) where
 
   -- The message with this number, if it is there still, lies in that slot of the book at that key.
   unfoldable pub IsPlaced : (number key slot : ℕ) → Type 0
-  IsPlaced number key slot = (number < domain.next_message) × ((k s : ℕ) → LiesAt k s number → (k ≡ key) × (s ≡ slot))
+  IsPlaced number key slot = (number < domain.next_message) × ((k s : ℕ) → MessageLiesAt k s number → (k ≡ key) × (s ≡ slot))
 
   -- The publisher, if it wasn't closed, stands at the place that its handle says.
   unfoldable pub IsPlacedPublisher : Publisher → Type 0
@@ -189,7 +189,7 @@ module _ {T U F G : Type 0} (domain : Kept T U F G) where
     pub placed : IsPlaced loan.loan.number loan.loan.book loan.loan.slot
 
   -- The loan is one of the domain's that is out and isn't written, and no send of its publisher is ever blocked, or failed by a handler.
-  pub record IsUnwrittenLoan (loan : SampleMutUninit) : Type 0 where
+  pub record NeverWaitsUnwritten (loan : SampleMutUninit) : Type 0 where
     pub out : IsUnwritten loan
     pub never_waits : NeverWaits (unwritten_key loan)
 
@@ -293,7 +293,7 @@ module _ {T U F G : Type 0} (domain : Kept T U F G) where
   -- That many more publishers can be closed, and the subscriber still has room for the connections with all that were:
   -- as many as its domain keeps for a subscriber.
   unfoldable pub HasRoomFor : Subscriber → (closes : ℕ) → Type 0
-  HasRoomFor subscriber closes = HasRoom (state_of domain) subscriber.id closes
+  HasRoomFor subscriber closes = HasDepartedRoom (state_of domain) subscriber.id closes
 
   -- The subscriber's next update loses nothing that waits for it: it has nothing to update, or it has room for the connections with
   -- all publishers that were closed.
@@ -461,8 +461,8 @@ abbrev pub written_loan : SampleMut → Item
 written_loan loan = A_loan loan.loan.number
 
 -- The blocked send of this handle.
-abbrev pub blocked_send : BlockedSend → Item
-blocked_send blocked = A_blocked_send blocked.loan.publisher
+abbrev pub blocked_item : BlockedSend → Item
+blocked_item blocked = A_blocked_send blocked.loan.publisher
 
 -- The sample of this handle.
 abbrev pub received_sample : Sample → Item

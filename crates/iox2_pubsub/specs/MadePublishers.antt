@@ -14,7 +14,7 @@ use Rattle.iox2_pubsub.specs.declared.subscriber.Subscriber.{Subscriber}
 
 -- The publisher was made with these settings and boxes: it is new, may lend, waits and fails as they say, and is connected with each
 -- subscriber that was there, if each connection could be allocated.
-pub record IsMade {T U F G : Type 0} (given : PublisherSettings) (box : Option F) (degrading : Option G) (port : Publisher) (old new : Kept T U F G) : Type 0 where
+pub record IsMadePublisher {T U F G : Type 0} (given : PublisherSettings) (box : Option F) (degrading : Option G) (port : Publisher) (old new : Kept T U F G) : Type 0 where
   pub grows : GrowsBy new port given.allocation_strategy
   pub ready : IsReadyPublisher new port
   pub discards : given.backpressure_strategy ≡ DiscardData → given.backpressure_handler ≡ None → may_fail_update given.degradation_handler ≡ false → NeverWaits new (publisher_key port)

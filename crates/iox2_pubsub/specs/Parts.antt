@@ -43,8 +43,8 @@ abbrev pub publisher_parts : Publisher → PublisherParts
 publisher_parts it = record { service_id = it.service_id; id = it.id; place = it.place; strategy = it.strategy; initial_max_slice_len = it.initial_max_slice_len }
 
 -- The handle of a publisher that has these numbers.
-abbrev pub publisher_with : PublisherParts → Publisher
-publisher_with parts = record { service_id = parts.service_id; id = parts.id; place = parts.place; strategy = parts.strategy; initial_max_slice_len = parts.initial_max_slice_len }
+abbrev pub publisher_of_parts : PublisherParts → Publisher
+publisher_of_parts parts = record { service_id = parts.service_id; id = parts.id; place = parts.place; strategy = parts.strategy; initial_max_slice_len = parts.initial_max_slice_len }
 
 -- The subscriber's numbers.
 abbrev pub subscriber_parts : Subscriber → SubscriberParts

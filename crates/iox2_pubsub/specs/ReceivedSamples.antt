@@ -48,7 +48,7 @@ pub record IsReceived {T U F G : Type 0} (receiver : Subscriber) (sample : Sampl
 -- The subscriber receives as the machine does, where handlers answer so, with this result: it is given a sample, or nothing waits for
 -- it, or there is an error; and without an error it is up to date.
 -- If it is given none, what waits is as it was. While it has borrows left, no limit refuses it one, and if it was up to date nothing does.
-pub record Receives {T U F G : Type 0} (environment : Environment) (receiver : Subscriber) (result : Result (Option Sample) ReceiveError) (old new : Kept T U F G) : Type 0 where
+pub record ReceivesSample {T U F G : Type 0} (environment : Environment) (receiver : Subscriber) (result : Result (Option Sample) ReceiveError) (old new : Kept T U F G) : Type 0 where
   pub consistent : IsConsistent old
   pub receives : TakesStep old new (λ before after. Receive environment before receiver.id after (received_result result))
   pub received : IfOk result (λ sample. IfSome sample (λ it. IsReceived receiver it old new))

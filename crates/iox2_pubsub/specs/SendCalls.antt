@@ -64,10 +64,10 @@ Sends environment s n l result s' = Send environment s n l s' (result_of_send re
 
 -- The messages after a send of the loan n, which is one of them from then on. After an error it is none, except if a
 -- handler failed the send.
-abbrev pub messages_after : {T U : Type 0} → Messages T U → (n : ℕ) → Loan T U → Result SendOutcome SendError → Messages T U
-messages_after m n l (Ok outcome) = put_at m n (Some (entry_of l))
-messages_after m n l (Err UnableToDeliver) = put_at m n (Some (entry_of l))
-messages_after m n l (Err error) = m
+abbrev pub messages_after_send : {T U : Type 0} → Messages T U → (n : ℕ) → Loan T U → Result SendOutcome SendError → Messages T U
+messages_after_send m n l (Ok outcome) = put_at m n (Some (entry_of l))
+messages_after_send m n l (Err UnableToDeliver) = put_at m n (Some (entry_of l))
+messages_after_send m n l (Err error) = m
 
 -- A handler of the publisher fails a send so: at some subscriber, whose buffer is full, or before the message is sent to any, where
 -- the publisher can't make a connection.

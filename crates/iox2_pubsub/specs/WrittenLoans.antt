@@ -11,7 +11,7 @@ use Rattle.iox2_machine.specs.declared.errors.SendError.{SendError}
 use Rattle.iox2_machine.specs.declared.errors.SendError.TheVariants.{LoanError as NotLoaned}
 use Rattle.iox2_domain.specs.Lending.{loan_memory}
 use Rattle.iox2_pubsub.specs.declared.send_outcome.SendOutcome.{SendOutcome}
-use Rattle.iox2_pubsub.specs.SendCalls.{IsOfHandler, Sends, messages_after}
+use Rattle.iox2_pubsub.specs.SendCalls.{IsOfHandler, Sends, messages_after_send}
 
 module _ {T U : Type 0} where
   -- The publisher p is asked for a loan with such a value: it is granted, with a default user header, or refused for this
@@ -31,7 +31,7 @@ module _ {T U : Type 0} where
       (λ e. (s' ≡ s) × ((values : List T) (user_header : U) → All IsValue values → GrantDefaultSlice (loan_memory s p) IsValue values user_header len s p s' (Some e)))
 
   -- The publisher p was lent this value, and the loan is sent where handlers answer so, with this outcome or error.
-  pub record SendsGranted (environment : Environment) (is_default : U → Type 0) (m : Messages T U) (s : State T U) (p : ℕ) (value : T) (outcome : Result SendOutcome SendError) (m' : Messages T U) (s' : State T U) : Type 0 where
+  pub record SendsLentValue (environment : Environment) (is_default : U → Type 0) (m : Messages T U) (s : State T U) (p : ℕ) (value : T) (outcome : Result SendOutcome SendError) (m' : Messages T U) (s' : State T U) : Type 0 where
     pub user_header : U
     pub default : is_default user_header
     pub granted : State T U
@@ -39,10 +39,10 @@ module _ {T U : Type 0} where
     pub loan : Loan T U
     pub out : granted.loans s.next_message ≡ Some loan
     pub sends : Sends environment granted s.next_message loan outcome s'
-    pub messages : m' ≡ messages_after m s.next_message loan outcome
+    pub messages : m' ≡ messages_after_send m s.next_message loan outcome
 
   -- The publisher p lends nothing, for this reason, and nothing changes.
-  pub record RefusesLoan (m : Messages T U) (s : State T U) (p : ℕ) (error : SendError) (m' : Messages T U) (s' : State T U) : Type 0 where
+  pub record LendsNothing (m : Messages T U) (s : State T U) (p : ℕ) (error : SendError) (m' : Messages T U) (s' : State T U) : Type 0 where
     pub reason : LoanError
     pub is : error ≡ NotLoaned reason
     pub messages : m' ≡ m
@@ -51,8 +51,8 @@ module _ {T U : Type 0} where
 
   -- The publisher p is asked to send this value: a loan with it is granted and sent, or refused. If a handler failed
   -- the send, it was granted.
-  abbrev pub SendsCopy : Environment → (is_default : U → Type 0) → Messages T U → State T U → (p : ℕ) → (value : T) → Result SendOutcome SendError → Messages T U → State T U → Type 0
-  SendsCopy environment is_default m s p value result m' s' =
+  abbrev pub SendsValue : Environment → (is_default : U → Type 0) → Messages T U → State T U → (p : ℕ) → (value : T) → Result SendOutcome SendError → Messages T U → State T U → Type 0
+  SendsValue environment is_default m s p value result m' s' =
       MatchResult result
-      (λ outcome. SendsGranted environment is_default m s p value (Ok outcome) m' s')
-      (λ error. (IsOfHandler error × SendsGranted environment is_default m s p value (Err error) m' s') ⊎ RefusesLoan m s p error m' s')
+      (λ outcome. SendsLentValue environment is_default m s p value (Ok outcome) m' s')
+      (λ error. (IsOfHandler error × SendsLentValue environment is_default m s p value (Err error) m' s') ⊎ LendsNothing m s p error m' s')

@@ -11,15 +11,15 @@ use Rattle.iox2_commands.specs.declared.reply.Reply.{Reply}
 use Rattle.iox2_runs.specs.Carries.{Carries}
 use Rattle.iox2_runs.specs.declared.runs.made.Made.{Made}
 use Rattle.iox2_runs.proofs.RunLoop.{has_run_none, has_run_more, is_run}
-use Rattle.iox2_recorded.specs.Recorded.{HasRun, WasRun, has_room}
+use Rattle.iox2_recorded.specs.Recorded.{HasRun, WasRun, has_room_for_call}
 use Rattle.iox2_recorded.specs.declared.recorded.Recorded.{Recorded}
 
 -- Where there is room nothing was missed.
-pub room-none : {T U F G : Type 0} (r : Recorded T U F G) → has_room r ≡ true → r.missed ≡ 0
+pub room-none : {T U F G : Type 0} (r : Recorded T U F G) → has_room_for_call r ≡ true → r.missed ≡ 0
 room-none r room = search rules
 
 -- and the commands leave room for one more
-pub room-left : {T U F G : Type 0} (r : Recorded T U F G) → has_room r ≡ true → vec_len r.commands < vec_capacity r.commands
+pub room-left : {T U F G : Type 0} (r : Recorded T U F G) → has_room_for_call r ≡ true → vec_len r.commands < vec_capacity r.commands
 room-left r room = search rules
 
 module _ {T U F G : Type 0} (defaults : Defaults T U) where

@@ -42,8 +42,8 @@ pub record IsRecorded {T U F G : Type 0} (defaults : Defaults T U) (r : Recorded
   pub whole : r.missed ≡ 0 → (missed_commands ≡ []) × (missed_replies ≡ [])
 
 -- No call was missed, and there is room for one more with its reply.
-abbrev pub has_room : {T U F G : Type 0} → Recorded T U F G → Bool
-has_room r = (r.missed == 0) && nat_lt (vec_len r.commands) (vec_capacity r.commands) && nat_lt (vec_len r.replies) (vec_capacity r.replies)
+abbrev pub has_room_for_call : {T U F G : Type 0} → Recorded T U F G → Bool
+has_room_for_call r = (r.missed == 0) && nat_lt (vec_len r.commands) (vec_capacity r.commands) && nat_lt (vec_len r.replies) (vec_capacity r.replies)
 
 -- The command was carried out with this reply: from whatever the domain showed it steps to what it shows now, and what it made is
 -- named by its position.
@@ -52,8 +52,8 @@ IsCarriedOut defaults old new command reply =
     (table : List Made) × (made : Made) × Carries fixed_handlers defaults old.domain new.domain old.table.items command reply table made × (new.table.items ≡ table ++ made ∷ [])
 
 -- In all there is room for that many calls with their replies.
-abbrev pub HasRoomFor : {T U F G : Type 0} → Recorded T U F G → (calls : ℕ) → Type 0
-HasRoomFor r calls = (vec_capacity r.commands ≡ calls) × (vec_capacity r.replies ≡ calls)
+abbrev pub HasCallRoom : {T U F G : Type 0} → Recorded T U F G → (calls : ℕ) → Type 0
+HasCallRoom r calls = (vec_capacity r.commands ≡ calls) × (vec_capacity r.replies ≡ calls)
 
 -- There is room for the names of what all calls make that are kept, and while none was missed no other has a name.
 pub record HasNames {T U F G : Type 0} (r : Recorded T U F G) : Type 0 where
@@ -62,10 +62,10 @@ pub record HasNames {T U F G : Type 0} (r : Recorded T U F G) : Type 0 where
 
 -- The command and its reply are kept behind the others, if none was missed so far and there is room; else one more is missed, of at
 -- most 2^64 - 1 that are counted, and what is kept stays. The room stays as it is.
-pub record Keeps {T U F G : Type 0} (old new : Recorded T U F G) (command : Command T U) (reply : Reply T U) : Type 0 where
-  pub kept : has_room old ≡ true → (new.missed ≡ 0) × (new.commands.items ≡ old.commands.items ++ command ∷ []) × (new.replies.items ≡ old.replies.items ++ reply ∷ [])
-  pub missed : has_room old ≡ false → (new.missed ≡ min (old.missed + 1) (2 ^ 64 - 1)) × (new.commands.items ≡ old.commands.items) × (new.replies.items ≡ old.replies.items)
-  pub room : (calls : ℕ) → HasRoomFor old calls → HasRoomFor new calls
+pub record KeepsCall {T U F G : Type 0} (old new : Recorded T U F G) (command : Command T U) (reply : Reply T U) : Type 0 where
+  pub kept : has_room_for_call old ≡ true → (new.missed ≡ 0) × (new.commands.items ≡ old.commands.items ++ command ∷ []) × (new.replies.items ≡ old.replies.items ++ reply ∷ [])
+  pub missed : has_room_for_call old ≡ false → (new.missed ≡ min (old.missed + 1) (2 ^ 64 - 1)) × (new.commands.items ≡ old.commands.items) × (new.replies.items ≡ old.replies.items)
+  pub room : (calls : ℕ) → HasCallRoom old calls → HasCallRoom new calls
 
 -- The domain, what is kept and the room are as they were.
 pub record SameRecording {T U F G : Type 0} (old new : Recorded T U F G) : Type 0 where
@@ -73,4 +73,4 @@ pub record SameRecording {T U F G : Type 0} (old new : Recorded T U F G) : Type 
   pub commands : new.commands.items ≡ old.commands.items
   pub replies : new.replies.items ≡ old.replies.items
   pub missed : new.missed ≡ old.missed
-  pub room : (calls : ℕ) → HasRoomFor old calls → HasRoomFor new calls
+  pub room : (calls : ℕ) → HasCallRoom old calls → HasCallRoom new calls

@@ -2,7 +2,7 @@ ghost use Rattle.std.specs.Prelude.{◌≡◌, Err, IfErr, IfOk, IsOk, false, tr
 ghost use Rattle.iox2_runs.specs.Carries.{defaults_of};
 ghost use Rattle.iox2_recorded.specs.declared.create_error.RecordedCreateError.TheVariants.{NoCells, OutOfMemory};
 ghost use Rattle.iox2_runs.specs.Services.{lacks_cells};
-ghost use Rattle.iox2_recorded.specs.Recorded.{HasNames, HasRoomFor, IsCarriedOut, IsRecorded, Keeps, SameRecording, WasRun, has_room};
+ghost use Rattle.iox2_recorded.specs.Recorded.{HasNames, HasCallRoom, IsCarriedOut, IsRecorded, KeepsCall, SameRecording, WasRun, has_room_for_call};
 
 use crate::create_error::RecordedCreateError;
 use iox2_machine::{BackpressureFn, DegradationFn};
@@ -49,7 +49,7 @@ impl<
     ) -> Result<Self, RecordedCreateError>
         ensures recorded { IfOk result (λ r. IsRecorded (defaults_of T.is_default U.is_default) r) }
         ensures empty { IfOk result (λ r. (r.config ≡ config) × (vec_len r.commands ≡ 0) × (vec_len r.replies ≡ 0) × (r.missed ≡ 0)) }
-        ensures room { IfOk result (λ r. HasRoomFor r room) }
+        ensures room { IfOk result (λ r. HasCallRoom r room) }
         ensures names { IfOk result HasNames }
         ensures no_cells { lacks_cells config ≡ true → result ≡ Err NoCells }
         ensures out_of_memory { lacks_cells config ≡ false → IfErr result (λ error. error ≡ OutOfMemory) }
@@ -84,9 +84,9 @@ impl<
         ensures recorded { IsRecorded (defaults_of T.is_default U.is_default) self.new }
         ensures settings { self.new.config ≡ self.old.config }
         ensures carries { IfOk result (λ reply. IsCarriedOut (defaults_of T.is_default U.is_default) self.old self.new command reply) }
-        ensures keeps { IfOk result (λ reply. Keeps self.old self.new command reply) }
+        ensures keeps { IfOk result (λ reply. KeepsCall self.old self.new command reply) }
         ensures names { HasNames self.old → HasNames self.new }
-        ensures granted { HasNames self.old → has_room self.old ≡ true → IsOk result }
+        ensures granted { HasNames self.old → has_room_for_call self.old ≡ true → IsOk result }
         ensures refused { IfErr result (λ _. SameRecording self.old self.new) }
     {
         self.table.reserve(1)?;
@@ -106,7 +106,7 @@ impl<
 
     /// Whether the next call is kept.
     pub fn has_room(&self) -> bool
-        ensures { result ≡ has_room self.now }
+        ensures { result ≡ has_room_for_call self.now }
     {
         self.missed == 0
             && self.commands.len() < self.commands.capacity()

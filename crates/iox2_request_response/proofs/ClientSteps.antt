@@ -6,7 +6,7 @@ use Rattle.iox2_pubsub.specs.Live.{IsLivePublisher, IsLiveSubscriber, No_item}
 use Rattle.iox2_pubsub.specs.declared.subscriber.Subscriber.{Subscriber}
 use Rattle.iox2_request_response.specs.Handles.{HasIdleOf, HasPortsOf, IsLiveClient, IsPendingOf}
 use Rattle.iox2_request_response.specs.Service.{StaysService}
-use Rattle.iox2_request_response.specs.Slots.{AreDistinct, HasIdle, IsInUse, slot_ids}
+use Rattle.iox2_request_response.specs.Slots.{AreDistinctIdle, HasIdle, IsPlaceInUse, slot_ids}
 use Rattle.iox2_request_response.specs.declared.client.Client.{Client}
 use Rattle.iox2_request_response.specs.declared.pending_response.PendingResponse.{PendingResponse}
 use Rattle.iox2_request_response.specs.declared.service.RequestResponse.{RequestResponse}
@@ -37,7 +37,7 @@ taken-ports before client index taken same stands is = record {
 
 -- and after it was given back
 pub given-ports : (before client : Client) (index : ℕ) (put : Subscriber) → client.requests ≡ before.requests
-    → IsInUse (before.slots).items index (subscriber_id put)
+    → IsPlaceInUse (before.slots).items index (subscriber_id put)
     → (client.slots).items ≡ slice_set (before.slots).items index (Idle put) → HasPortsOf before client
 given-ports before client index put same used is = record {
   requests = same;
@@ -52,7 +52,7 @@ pub used-still : (before client : Client) (index : ℕ) (put : Slot)
     → IsPendingOf before other
     → IsPendingOf client other
 used-still before client index put is other away its =
-    subst (λ (xs : List Slot). IsInUse xs other.index (subscriber_id other.slot)) (sym is)
+    subst (λ (xs : List Slot). IsPlaceInUse xs other.index (subscriber_id other.slot)) (sym is)
     (set-used (before.slots).items index put other.index (subscriber_id other.slot) away its)
 
 -- and its place isn't that of an idle subscriber
@@ -65,10 +65,10 @@ taken-apart before index taken stands other its same =
 -- a subscriber that was taken is in use
 pub taken-used : (before client : Client) (index : ℕ) (taken : Subscriber) → index < length (before.slots).items
     → (client.slots).items ≡ slice_set (before.slots).items index (InUse (subscriber_id taken))
-    → IsInUse (client.slots).items index (subscriber_id taken)
+    → IsPlaceInUse (client.slots).items index (subscriber_id taken)
 taken-used before client index taken low is =
     let set = set-there (before.slots).items index (InUse (subscriber_id taken)) low in
-    subst (λ (xs : List Slot). IsInUse xs index (subscriber_id taken)) (sym is)
+    subst (λ (xs : List Slot). IsPlaceInUse xs index (subscriber_id taken)) (sym is)
     (record { there = set.0; in_use = set.1 })
 
 -- ---- they are live
@@ -81,7 +81,7 @@ client-as service before client same is live = record {
   requests = subst (IsLivePublisher service.requests) (sym same) live.requests;
   slots = λ at subscriber idle.
       live.slots at subscriber (ap (λ (xs : List Slot). slice_index_or xs at (InUse 0)) (sym is) ∙ idle);
-  distinct = subst (λ (xs : List Slot). AreDistinct (slot_ids xs)) (sym is) live.distinct;
+  distinct = subst (λ (xs : List Slot). AreDistinctIdle (slot_ids xs)) (sym is) live.distinct;
 }
 
 module _ {Q P F G : Type 0} (old new : RequestResponse Q P F G) (stays : StaysService old new) where
@@ -94,7 +94,7 @@ module _ {Q P F G : Type 0} (old new : RequestResponse Q P F G) (stays : StaysSe
         (subst (IsLivePublisher old.requests) (sym ports.requests) was.requests);
     slots = λ at subscriber idle.
         subscriber-live old.responses new.responses No_item subscriber stays.responses tt (live at subscriber idle);
-    distinct = subst AreDistinct (sym ports.slots) was.distinct;
+    distinct = subst AreDistinctIdle (sym ports.slots) was.distinct;
   }
 
   -- one that changes nothing
@@ -109,7 +109,7 @@ module _ {Q P F G : Type 0} (old new : RequestResponse Q P F G) (stays : StaysSe
 
   -- one to which it was given back
   pub client-given : (before client : Client) (index : ℕ) (put : Subscriber) → client.requests ≡ before.requests
-      → IsInUse (before.slots).items index (subscriber_id put)
+      → IsPlaceInUse (before.slots).items index (subscriber_id put)
       → (client.slots).items ≡ slice_set (before.slots).items index (Idle put) → IsLiveSubscriber old.responses put
       → IsLiveClient old before → IsLiveClient new client
   client-given before client index put same used is live-one live =

@@ -16,7 +16,7 @@ use Rattle.iox2_pubsub.proofs.StaysBut.{stays-twice, unchanged-stays}
 use Rattle.iox2_request_response.specs.Handles.{IsLiveClient}
 use Rattle.iox2_request_response.specs.Ports.{HasNoNewSubscriber, IsGoneSubscriber}
 use Rattle.iox2_request_response.specs.Service.{StaysBoth}
-use Rattle.iox2_request_response.specs.Slots.{AreDistinct, HasIdle, idle_ids, idle_ports, slot_ids}
+use Rattle.iox2_request_response.specs.Slots.{AreDistinctIdle, HasIdle, idle_ids, idle_ports, slot_ids}
 use Rattle.iox2_request_response.specs.declared.client.Client.{Client}
 use Rattle.iox2_request_response.specs.declared.service.RequestResponse.{RequestResponse}
 use Rattle.iox2_request_response.specs.declared.slots.Slot.{Slot}
@@ -100,14 +100,14 @@ module _ {Q P F G : Type 0} (all : List Slot) (start : RequestResponse Q P F G) 
     module _ (subscriber : Subscriber) (last : rest ≡ left ++ Idle subscriber ∷ []) where
       -- an idle one is live still
       pub last-live : ((at : ℕ) (it : Subscriber) → HasIdle all at it → IsLiveSubscriber start.responses it)
-          → AreDistinct (slot_ids all) → IsLiveSubscriber now.responses subscriber
+          → AreDistinctIdle (slot_ids all) → IsLiveSubscriber now.responses subscriber
       last-live live distinct =
           let is = moves (Idle subscriber) last in
           let stood : HasIdle all (length left) subscriber =
           ap (λ (xs : List Slot). slice_index_or xs (length left) (InUse 0)) is
           ∙ middle-idle left closing.closed subscriber in
           let apart = middle-apart left closing.closed subscriber
-          (subst (λ (xs : List Slot). AreDistinct (slot_ids xs)) is distinct) in
+          (subst (λ (xs : List Slot). AreDistinctIdle (slot_ids xs)) is distinct) in
           subscriber-live start.responses now.responses (idle_ports closing.closed) subscriber closing.responses
           (other-ports closing.closed (subscriber_id subscriber) apart)
           (live (length left) subscriber stood)
@@ -157,7 +157,7 @@ pub record IsFilling {Q P F G : Type 0} (requests : Publisher) (start : RequestR
       → IsLiveSubscriber now.responses subscriber
   pub all_idle : (at : ℕ) → at < length (client.slots).items
       → (subscriber : Subscriber) × HasIdle (client.slots).items at subscriber
-  pub distinct : AreDistinct (slot_ids (client.slots).items)
+  pub distinct : AreDistinctIdle (slot_ids (client.slots).items)
   pub are_new : IsNewIn start.responses (subscriber_ports (slot_ids (client.slots).items))
   pub left : (key : Key) → IsSubscriberKey now.responses key → IsOldOrIn start.responses (client.slots).items key
 
@@ -273,7 +273,7 @@ module _ {Q P F G : Type 0} (requests : Publisher) (start : RequestResponse Q P 
           ];
       all_idle = subst (λ (xs : List Slot). (at : ℕ) → at < length xs → (subscriber : Subscriber)
           × HasIdle xs at subscriber) (sym items) (pushed-idle (client.slots).items filling.all_idle);
-      distinct = subst (λ (ids : List ℕ). AreDistinct ids) (sym ids)
+      distinct = subst (λ (ids : List ℕ). AreDistinctIdle ids) (sym ids)
           (push-distinct (slot_ids (client.slots).items) (subscriber_id made) filling.distinct apart);
       are_new = subst (λ (ids : List ℕ). IsNewIn start.responses (subscriber_ports ids)) (sym ids)
           (push-new (slot_ids (client.slots).items) (subscriber_id made) filling.are_new

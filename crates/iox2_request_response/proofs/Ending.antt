@@ -4,7 +4,7 @@ use Rattle.iox2_pubsub.specs.Live.{IsOtherBlocked, IsOtherPublisher, IsOtherSubs
 use Rattle.iox2_pubsub.specs.Live.{publisher_port, received_sample, subscriber_port}
 use Rattle.iox2_pubsub.specs.Handles.{publisher_id, subscriber_id}
 use Rattle.iox2_pubsub.proofs.StaysBut.{new-since, stays-on, stays-twice}
-use Rattle.iox2_request_response.specs.Handles.{AreApart, HasIdleOf, HasPortsOf, IsLiveActive, IsLiveClient}
+use Rattle.iox2_request_response.specs.Handles.{AreSeparateRequests, HasIdleOf, HasPortsOf, IsLiveActive, IsLiveClient}
 use Rattle.iox2_request_response.specs.Handles.{IsLivePending, IsLiveServer, IsNewActive, IsNewResponse, IsPendingOf}
 use Rattle.iox2_request_response.specs.Handles.{StaysButActive, StaysButClient, StaysButPending, StaysButResponse}
 use Rattle.iox2_request_response.specs.Handles.{StaysButServer}
@@ -24,7 +24,7 @@ use Rattle.std.proofs.Common.{◌∙◌, ℕ, ap, arith, le_trans, sym}
 use Rattle.iox2_machine.specs.declared.service_config.ServiceConfig.{ServiceConfig}
 
 -- two that are apart are so either way
-pub apart_back : (first second : PendingResponse) → AreApart first second → AreApart second first
+pub apart_back : (first second : PendingResponse) → AreSeparateRequests first second → AreSeparateRequests second first
 apart_back first second apart same = apart (sym same)
 
 module _ {Q P F G : Type 0} where

@@ -5,7 +5,7 @@ use Rattle.std.proofs.lemmas.List.{length-map}
 use Rattle.iox2_pubsub.specs.Handles.{subscriber_id}
 use Rattle.iox2_pubsub.specs.Live.{IsOtherSubscriber}
 use Rattle.iox2_pubsub.specs.declared.subscriber.Subscriber.{Subscriber}
-use Rattle.iox2_request_response.specs.Slots.{AreDistinct, HasIdle, IsInUse, idle_ports, slot_id, slot_ids}
+use Rattle.iox2_request_response.specs.Slots.{AreDistinctIdle, HasIdle, IsPlaceInUse, idle_ports, slot_id, slot_ids}
 use Rattle.iox2_request_response.specs.declared.slots.Slot.{Slot}
 use Rattle.iox2_request_response.specs.declared.slots.Slot.TheVariants.{Idle, InUse}
 
@@ -70,7 +70,7 @@ id-there (first ∷ slots) (suc at) slot low is = id-there slots at slot (omega 
 pub as-many : (slots : List Slot) → length (slot_ids slots) ≡ length slots
 as-many slots = length-map slots slot_id
 
-module _ (slots : List Slot) (distinct : AreDistinct (slot_ids slots)) where
+module _ (slots : List Slot) (distinct : AreDistinctIdle (slot_ids slots)) where
   -- places at which the same id stands are the same
   pub same-place : (one other : ℕ) (first second : Slot) → one < length slots → other < length slots
       → get_or slots one (InUse 0) ≡ first → get_or slots other (InUse 0) ≡ second
@@ -81,7 +81,7 @@ module _ (slots : List Slot) (distinct : AreDistinct (slot_ids slots)) where
       (id-there slots one first low here ∙ same ∙ sym (id-there slots other second high there))
 
   -- a subscriber that a request has is none of the idle ones
-  pub pending-apart : (index id : ℕ) → IsInUse slots index id → (at : ℕ) (subscriber : Subscriber)
+  pub pending-apart : (index id : ℕ) → IsPlaceInUse slots index id → (at : ℕ) (subscriber : Subscriber)
       → HasIdle slots at subscriber → id ≢ subscriber_id subscriber
   pending-apart index id used at subscriber idle same =
       let place : index ≡ at = same-place index at (InUse id) (Idle subscriber) used.there
@@ -122,8 +122,8 @@ set-ids (slot ∷ slots) (suc index) put was is same =
     ap (λ (ids : List ℕ). slot_id slot ∷ ids) (set-ids slots index put was is same)
 
 -- another place is in use as before
-pub set-used : (slots : List Slot) (index : ℕ) (put : Slot) (at id : ℕ) → at ≢ index → IsInUse slots at id
-    → IsInUse (slice_set slots index put) at id
+pub set-used : (slots : List Slot) (index : ℕ) (put : Slot) (at id : ℕ) → at ≢ index → IsPlaceInUse slots at id
+    → IsPlaceInUse (slice_set slots index put) at id
 set-used slots index put at id away used =
     record {
       there = let same : length (slice_set slots index put) ≡ length slots = long slots index in
@@ -185,8 +185,8 @@ push-id (first ∷ ids) id (suc at) low = elim (push-id ids id at (omega (arith,
 ]
 
 -- ids are distinct still, where another one is put behind them
-pub push-distinct : (ids : List ℕ) (id : ℕ) → AreDistinct ids → ((at : ℕ) → at < length ids → get_or ids at 0 ≢ id)
-    → AreDistinct (ids ++ id ∷ [])
+pub push-distinct : (ids : List ℕ) (id : ℕ) → AreDistinctIdle ids → ((at : ℕ) → at < length ids → get_or ids at 0 ≢ id)
+    → AreDistinctIdle (ids ++ id ∷ [])
 push-distinct ids id distinct apart one other low high same = elim (push-id ids id one low) [
   | inl here ↦ elim (push-id ids id other high) [
     | inl there ↦ here.0 ∙ sym there.0
@@ -230,7 +230,7 @@ later-idle (first ∷ before) after slot at subscriber idle = later-idle before 
 
 -- so he is another than these
 pub middle-apart : (before after : List Slot) (subscriber : Subscriber)
-    → AreDistinct (slot_ids (before ++ Idle subscriber ∷ after)) → (at : ℕ) (other : Subscriber)
+    → AreDistinctIdle (slot_ids (before ++ Idle subscriber ∷ after)) → (at : ℕ) (other : Subscriber)
     → HasIdle after at other → subscriber_id subscriber ≢ subscriber_id other
 middle-apart before after subscriber distinct at other idle same =
     let here = middle-idle before after subscriber in

@@ -11,7 +11,7 @@ use Rattle.iox2_pubsub.specs.Live.{SampleHasUserHeader, publisher_port, received
 use Rattle.iox2_pubsub.specs.Live.{subscriber_ports}
 use Rattle.iox2_pubsub.specs.declared.subscriber.Subscriber.{Subscriber}
 use Rattle.iox2_request_response.specs.Service.{StaysBoth}
-use Rattle.iox2_request_response.specs.Slots.{AreDistinct, HasIdle, IsInUse, idle_ports, slot_ids}
+use Rattle.iox2_request_response.specs.Slots.{AreDistinctIdle, HasIdle, IsPlaceInUse, idle_ports, slot_ids}
 use Rattle.iox2_request_response.specs.declared.active_request.ActiveRequest.{ActiveRequest}
 use Rattle.iox2_request_response.specs.declared.client.Client.{Client}
 use Rattle.iox2_request_response.specs.declared.pending_response.PendingResponse.{PendingResponse}
@@ -33,7 +33,7 @@ module _ {Q P F G : Type 0} (service : RequestResponse Q P F G) where
     pub requests : IsLivePublisher service.requests client.requests
     pub slots : (index : ℕ) (subscriber : Subscriber) → HasIdle (client.slots).items index subscriber
         → IsLiveSubscriber service.responses subscriber
-    pub distinct : AreDistinct (slot_ids (client.slots).items)
+    pub distinct : AreDistinctIdle (slot_ids (client.slots).items)
 
   -- Both ports of the server are live.
   pub record IsLiveServer (server : Server) : Type 0 where
@@ -114,11 +114,11 @@ module _ {Q P F G : Type 0} (old new : RequestResponse Q P F G) where
 
 -- The pending response is one of this client's: its subscriber is that of the place that it has there.
 abbrev pub IsPendingOf : Client → PendingResponse → Type 0
-IsPendingOf client pending = IsInUse (client.slots).items pending.index (subscriber_id pending.slot)
+IsPendingOf client pending = IsPlaceInUse (client.slots).items pending.index (subscriber_id pending.slot)
 
 -- The two have places of their own.
-abbrev pub AreApart : (first second : PendingResponse) → Type 0
-AreApart first second = first.index ≢ second.index
+abbrev pub AreSeparateRequests : (first second : PendingResponse) → Type 0
+AreSeparateRequests first second = first.index ≢ second.index
 
 -- The client has the ports that it had before, whoever of them is idle.
 pub record HasPortsOf (before client : Client) : Type 0 where

@@ -35,17 +35,17 @@ abbrev pub AllInUse : List Slot → Type 0
 AllInUse slots = (index : ℕ) (subscriber : Subscriber) → HasIdle slots index subscriber → ⊥
 
 -- No id stands in the list twice.
-abbrev pub AreDistinct : List ℕ → Type 0
-AreDistinct ids = (index other : ℕ) → index < length ids → other < length ids
+abbrev pub AreDistinctIdle : List ℕ → Type 0
+AreDistinctIdle ids = (index other : ℕ) → index < length ids → other < length ids
     → slice_index_or ids index 0 ≡ slice_index_or ids other 0 → index ≡ other
 
 -- A request has the subscriber with this id, whose place is at this index.
-pub record IsInUse (slots : List Slot) (index id : ℕ) : Type 0 where
+pub record IsPlaceInUse (slots : List Slot) (index id : ℕ) : Type 0 where
   pub there : index < length slots
   pub in_use : slice_index_or slots index (InUse 0) ≡ InUse id
 
 -- An idle subscriber was taken out, from this index, or there is none.
-abbrev pub IsTakenOut : (old : List Slot) → Option (ℕ × Subscriber) → (new : List Slot) → Type 0
-IsTakenOut old result new =
+abbrev pub IsIdleTakenOut : (old : List Slot) → Option (ℕ × Subscriber) → (new : List Slot) → Type 0
+IsIdleTakenOut old result new =
     MatchOption result ((new ≡ old) × AllInUse old)
     (λ it. (it.0 < length old) × HasIdle old it.0 it.1 × (new ≡ slice_set old it.0 (InUse (subscriber_id it.1))))

@@ -2,11 +2,11 @@
 ghost use Rattle.std.specs.Prelude.{◌≡◌, ◌≤◌, ◌↔◌, [], Err, ◌+◌, IfErr, IfOk, length, slice_set, vec_capacity};
 ghost use Rattle.iox2_pubsub.specs.Handles.{publisher_id, subscriber_id};
 ghost use Rattle.iox2_pubsub.specs.Live.{IsLivePublisher, IsLiveSubscriber, IsNewIn, No_item, publisher_port, subscriber_ports};
-ghost use Rattle.iox2_request_response.specs.Handles.{AreApart, HasIdleOf, HasNewNumber, HasPortsOf, IsLiveClient, IsLivePending, IsNewClient, IsPendingOf, IsRequestNumber, StaysButClient};
+ghost use Rattle.iox2_request_response.specs.Handles.{AreSeparateRequests, HasIdleOf, HasNewNumber, HasPortsOf, IsLiveClient, IsLivePending, IsNewClient, IsPendingOf, IsRequestNumber, StaysButClient};
 ghost use Rattle.iox2_request_response.specs.Ports.{HasLostPublisher, HasNoNewPublisher, HasNoNewSubscriber, IsClosedClient};
 ghost use Rattle.iox2_request_response.specs.Sent.{SendsOne};
 ghost use Rattle.iox2_request_response.specs.Service.{IsService, StaysBoth, StaysService};
-ghost use Rattle.iox2_request_response.specs.Slots.{AllInUse, HasIdle, IsInUse, slot_ids};
+ghost use Rattle.iox2_request_response.specs.Slots.{AllInUse, HasIdle, IsPlaceInUse, slot_ids};
 ghost use Rattle.iox2_request_response.specs.declared.pending_response.PendingResponse.{PendingResponse as Pending};
 ghost use Rattle.iox2_request_response.specs.declared.slots.Slot.TheVariants.{Idle};
 
@@ -99,7 +99,7 @@ impl Client {
         ensures kept { IfErr result (λ _. self.new.slots.items ≡ self.old.slots.items) }
         ensures pending { IfOk result (IsLivePending service.new) }
         ensures its { IfOk result (IsPendingOf self.new) }
-        ensures others { (other : Pending) → IsPendingOf self.old other → IsPendingOf self.new other × IfOk result (AreApart other) }
+        ensures others { (other : Pending) → IsPendingOf self.old other → IsPendingOf self.new other × IfOk result (AreSeparateRequests other) }
         ensures number { IfOk result (HasNewNumber service.old service.new) }
         ensures asked { IfOk result (λ pending. SendsOne (record { slot = subscriber_id pending.slot; number = pending.number }) value service.old.requests service.new.requests) }
         ensures ports { HasPortsOf self.old self.new }
@@ -127,7 +127,7 @@ impl Client {
 
     // The subscriber is idle again.
     pub(crate) fn give_back(&mut self, index: usize, slot: Subscriber)
-        requires { IsInUse self.old.slots.items index (subscriber_id slot) }
+        requires { IsPlaceInUse self.old.slots.items index (subscriber_id slot) }
         ensures requests { self.new.requests ≡ self.old.requests }
         ensures slots { self.new.slots.items ≡ slice_set self.old.slots.items index (Idle slot) }
     {

@@ -7,7 +7,7 @@ ghost use Rattle.iox2_machine.specs.machine.State.{State, Messages};
 ghost use Rattle.iox2_domain.specs.Shows.{Shows};
 ghost use Rattle.iox2_pubsub.specs.Handles.{subscriber_id};
 ghost use Rattle.iox2_pubsub.specs.Live.{IsLiveSubscriber, IsSubscriberKey, SampleHasUserHeader, sample_key, subscriber_key, waiting};
-ghost use Rattle.iox2_request_response.specs.Handles.{AreApart, HasIdleOf, HasPortsOf, IsLiveClient, IsLivePending, IsLiveResponse, IsNewResponse, IsPendingOf, IsRequestNumber, StaysButPending};
+ghost use Rattle.iox2_request_response.specs.Handles.{AreSeparateRequests, HasIdleOf, HasPortsOf, IsLiveClient, IsLivePending, IsLiveResponse, IsNewResponse, IsPendingOf, IsRequestNumber, StaysButPending};
 ghost use Rattle.iox2_request_response.specs.Service.{StaysService};
 ghost use Rattle.iox2_request_response.specs.Slots.{HasIdle};
 ghost use Rattle.iox2_request_response.specs.declared.client.Client.{Client as ItsClient};
@@ -109,7 +109,7 @@ impl PendingResponse {
         requires its { IsPendingOf client.old self }
         ensures client { IsLiveClient service.new client.new }
         ensures given { HasIdle client.new.slots.items self.index self.slot }
-        ensures others { (other : Pending) → IsPendingOf client.old other → AreApart self other → IsPendingOf client.new other }
+        ensures others { (other : Pending) → IsPendingOf client.old other → AreSeparateRequests self other → IsPendingOf client.new other }
         ensures ports { HasPortsOf client.old client.new }
         ensures idle { (before : ItsClient) → HasIdleOf before client.old → HasIdle before.slots.items self.index self.slot → HasIdleOf before client.new }
         ensures let_go { (m : Messages P Tag) (s : State P Tag) → Shows service.new.responses m s → some_channel_has_state s (subscriber_id self.slot) 0 self.number ≡ false }

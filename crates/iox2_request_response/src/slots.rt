@@ -1,7 +1,7 @@
 //! The subscribers of a client's responses: one for each request that may wait for responses.
 ghost use Rattle.std.specs.Prelude.{◌≡◌, slice_set};
 ghost use Rattle.iox2_pubsub.specs.Handles.{subscriber_id};
-ghost use Rattle.iox2_request_response.specs.Slots.{IsInUse, IsTakenOut, slot_id};
+ghost use Rattle.iox2_request_response.specs.Slots.{IsPlaceInUse, IsIdleTakenOut, slot_id};
 ghost use Rattle.iox2_request_response.specs.declared.slots.Slot.TheVariants.{Idle};
 
 use iox2_pubsub::{Subscriber, UniqueSubscriberId};
@@ -27,7 +27,7 @@ impl Slot {
 
 /// Takes an idle subscriber out, with its index. `None` if all are in use.
 pub(crate) fn take_idle(slots: &mut Vec<Slot>) -> Option<(usize, Subscriber)>
-    ensures { IsTakenOut slots.old.items result slots.new.items }
+    ensures { IsIdleTakenOut slots.old.items result slots.new.items }
 {
     for index in 0..slots.len() {
         let id = slots[index].id();
@@ -41,7 +41,7 @@ pub(crate) fn take_idle(slots: &mut Vec<Slot>) -> Option<(usize, Subscriber)>
 
 /// Puts a subscriber back, where its slot is in use.
 pub(crate) fn put_back(slots: &mut Vec<Slot>, index: usize, subscriber: Subscriber)
-    requires { IsInUse slots.old.items index (subscriber_id subscriber) }
+    requires { IsPlaceInUse slots.old.items index (subscriber_id subscriber) }
     ensures { slots.new.items ≡ slice_set slots.old.items index (Idle subscriber) }
 {
     match mem::replace(&mut slots[index], Slot::Idle(subscriber)) {

@@ -1,5 +1,5 @@
 //! What the tests start from: each call where it has to succeed.
-ghost use Rattle.iox2_request_response.specs.Handles.{AreApart, HasIdleOf, HasPortsOf, IsLiveActive, IsLiveClient, IsLivePending, IsLiveResponse, IsLiveServer, IsNewActive, IsNewClient, IsNewResponse, IsNewServer, IsPendingOf};
+ghost use Rattle.iox2_request_response.specs.Handles.{AreSeparateRequests, HasIdleOf, HasPortsOf, IsLiveActive, IsLiveClient, IsLivePending, IsLiveResponse, IsLiveServer, IsNewActive, IsNewClient, IsNewResponse, IsNewServer, IsPendingOf};
 ghost use Rattle.iox2_request_response.specs.Service.{IsService, StaysService};
 ghost use Rattle.iox2_request_response.specs.Slots.{HasIdle};
 ghost use Rattle.iox2_request_response.specs.declared.pending_response.PendingResponse.{PendingResponse as Pending};
@@ -63,7 +63,7 @@ pub(crate) fn sent<R: Abort, F: BackpressureFn, G: DegradationFn>(
     requires client { IsLiveClient service.old client.old }
     ensures pending { IsLivePending service.new result }
     ensures its { IsPendingOf client.new result }
-    ensures others { (other : Pending) → IsPendingOf client.old other → IsPendingOf client.new other × AreApart other result }
+    ensures others { (other : Pending) → IsPendingOf client.old other → IsPendingOf client.new other × AreSeparateRequests other result }
     ensures ports { HasPortsOf client.old client.new }
     ensures idle { HasIdleOf client.old client.new }
     ensures was_idle { HasIdle client.old.slots.items result.index result.slot }

@@ -14,7 +14,7 @@ use Rattle.iox2_laws.proofs.ConnectionSendsLeave.{send_to_connection_waits}
 use Rattle.iox2_domain.specs.Kept.{Kept as Domain}
 use Rattle.iox2_domain.specs.Shows.{Shows}
 use Rattle.iox2_pubsub.specs.Live.{IsBlockedSend, blocked_key, written_key}
-use Rattle.iox2_pubsub.specs.SendCalls.{IfBlocked, IsOfHandler, SendsToConnection, messages_after, result_of_send}
+use Rattle.iox2_pubsub.specs.SendCalls.{IfBlocked, IsOfHandler, SendsToConnection, messages_after_send, result_of_send}
 use Rattle.iox2_pubsub.specs.declared.publisher.Publisher.{Publisher as PublisherHandle}
 use Rattle.iox2_pubsub.specs.declared.sample_mut.SampleMut.{SampleMut}
 use Rattle.iox2_pubsub.specs.declared.send_outcome.SendOutcome.{SendOutcome}
@@ -32,7 +32,7 @@ use Rattle.iox2_commands.proofs.ChannelOutcomes.{OnChannels, is_on_channels, on_
 use Rattle.iox2_runs.specs.Carries.{entry_for, entries_with, Carries}
 use Rattle.iox2_runs.specs.RunSteps.{Comes}
 use Rattle.iox2_runs.specs.SendReplies.{reply_to_send, made_by_send}
-use Rattle.iox2_runs.specs.Tables.{TableEntry, No_entry, IsUnblocked, HasNoBox, IsTable}
+use Rattle.iox2_runs.specs.Tables.{TableEntry, No_entry, IsUnblockedPort, HasNoBox, IsTable}
 use Rattle.iox2_runs.specs.declared.runs.made.Made.{Made}
 use Rattle.iox2_runs.specs.declared.runs.made.Made.TheVariants.{Nothing, Publisher as MadePublisher, Subscriber as MadeSubscriber, Written}
 use Rattle.iox2_runs.proofs.CarriedLoans.{lender-unboxed, sent-by}
@@ -161,7 +161,7 @@ module _ {T U F G : Type 0} (environment : Environment) (defaults : Defaults T U
 
   -- its publisher waits for a receiver
   pub connection_held_up : (channel place : ℕ) (h : SampleMut) → slice_index_or table of Nothing ≡ Written h
-      → ((m : Messages T U) (s : State T U) → Shows domain m s → IsUnblocked s h.loan.publisher → ⊥) → Skips (SendLoanTo of channel place)
+      → ((m : Messages T U) (s : State T U) → Shows domain m s → IsUnblockedPort s h.loan.publisher → ⊥) → Skips (SendLoanTo of channel place)
   connection_held_up channel place h at waits = λ m s handles events shown w default_value default_header is_value is_header.
       connection_waiting environment defaults (Shows domain) m s handles events (map entry_for table) w default_value default_header is_value is_header of channel place
       h.service_id h.loan.publisher h.loan.number (entry-stands table of (Written h) at (λ e. let clash : Written h ≡ Nothing = e in cc)) (waits m s shown) shown
@@ -169,9 +169,9 @@ module _ {T U F G : Type 0} (environment : Environment) (defaults : Defaults T U
 module _ {T U F G : Type 0} (environment : Environment) (defaults : Defaults T U) (old new : Domain T U F G) (table table' : List Made) (of : ℕ) where
   -- the loan is sent: one receiver takes it or none, or it waits for one, or its publisher is gone, or a handler failed the send
   pub connection_carried : (channel place : ℕ) (h : SampleMut) (outcome : Result SendOutcome SendError) → slice_index_or table of Nothing ≡ Written h → channel < channel_count old.config
-      → ((m : Messages T U) (s : State T U) → Shows old m s → IsUnblocked s h.loan.publisher)
+      → ((m : Messages T U) (s : State T U) → Shows old m s → IsUnblockedPort s h.loan.publisher)
       → ((m : Messages T U) (s : State T U) (l : Loan T U) → Shows old m s → s.loans h.loan.number ≡ Some l
-      → (s' : State T U) × Shows new (messages_after m h.loan.number l outcome) s' × SendsToConnection environment s h.loan.number l channel place outcome s')
+      → (s' : State T U) × Shows new (messages_after_send m h.loan.number l outcome) s' × SendsToConnection environment s h.loan.number l channel place outcome s')
       → IfOk outcome (λ came. IfBlocked came (λ blocked. IsBlockedSend new blocked × (blocked_key blocked ≡ written_key h)))
       → IfErr outcome (λ error. (error ≡ ConnectionBrokenSinceSenderNoLongerExists) ⊎ IsOfHandler error)
       → table' ≡ slice_set table of Nothing

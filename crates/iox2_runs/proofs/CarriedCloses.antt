@@ -19,7 +19,7 @@ use Rattle.iox2_pubsub.specs.declared.subscriber.Subscriber.{Subscriber as Subsc
 use Rattle.iox2_commands.specs.Outcomes.{Handle, No_handle, Publisher_handle, Subscriber_handle, Event, No_event, done}
 use Rattle.iox2_commands.specs.Runs.{Defaults}
 use Rattle.iox2_commands.specs.Step.{Step}
-use Rattle.iox2_runs.specs.Tables.{TableEntry, No_entry, IsSpent, IsUnblocked, IsTable}
+use Rattle.iox2_runs.specs.Tables.{TableEntry, No_entry, IsSpent, IsUnblockedPort, IsTable}
 use Rattle.iox2_runs.specs.RunSteps.{Comes}
 use Rattle.iox2_runs.specs.Carries.{entry_for, Carries}
 use Rattle.iox2_commands.specs.declared.command.Command.TheVariants.{Close}
@@ -35,7 +35,7 @@ use Rattle.iox2_runs.proofs.TablePassed.{free_waits}
 -- ---- what a close leaves
 
 -- each port but the publisher stays, and none comes back
-publisher-leaves : {T U : Type 0} (s : State T U) (p : ℕ) (x : Publisher) → IsUnblocked s p → PortsKeep (Publisher_handle p) No_handle s (publisher_closed s p x)
+publisher-leaves : {T U : Type 0} (s : State T U) (p : ℕ) (x : Publisher) → IsUnblockedPort s p → PortsKeep (Publisher_handle p) No_handle s (publisher_closed s p x)
 publisher-leaves {T} {U} s p x free =
     let come = publisher_closed_comes s p x in
     let waits = publisher_closed_waits Nobody s p x in record {
@@ -116,7 +116,7 @@ module _ {T U F G : Type 0} (environment : Environment) (defaults : Defaults T U
 
   -- a publisher is closed
   pub publisher_close_carried : (h : PublisherHandle) → slice_index_or table of Nothing ≡ MadePublisher h
-      → ((m : Messages T U) (s : State T U) → Shows old m s → IsUnblocked s h.id)
+      → ((m : Messages T U) (s : State T U) → Shows old m s → IsUnblockedPort s h.id)
       → ((m : Messages T U) (s : State T U) (x : Publisher) → Shows old m s → s.publishers h.id ≡ Some x → Shows new m (publisher_closed s h.id x))
       → table' ≡ slice_set table of Nothing → Carries environment defaults old new table (Close of) Done table' Nothing
   publisher_close_carried h at free closes is = λ m s handles events shown w default_value default_header is_value is_header.
@@ -129,7 +129,7 @@ module _ {T U F G : Type 0} (environment : Environment) (defaults : Defaults T U
       (publisher_closed_borrowed s h.id found.0) (omega arith) (at_some _ _ _ (h.id, found.0) found.1 refl) (closes m s found.0 shown found.2))
 
   -- one that waits for a receiver isn't
-  pub close_held_up : (h : PublisherHandle) → slice_index_or table of Nothing ≡ MadePublisher h → ((m : Messages T U) (s : State T U) → Shows old m s → IsUnblocked s h.id → ⊥) → Carries environment defaults old old table (Close of) Skipped table Nothing
+  pub close_held_up : (h : PublisherHandle) → slice_index_or table of Nothing ≡ MadePublisher h → ((m : Messages T U) (s : State T U) → Shows old m s → IsUnblockedPort s h.id → ⊥) → Carries environment defaults old old table (Close of) Skipped table Nothing
   close_held_up h at waits = λ m s handles events shown w default_value default_header is_value is_header.
       let stand = entry-stands table of (MadePublisher h) at (λ e. let clash : MadePublisher h ≡ Nothing = e in cc) in
       skip_comes environment defaults (Shows old) m s handles events (map entry_for table) w default_value default_header is_value is_header (Close of)

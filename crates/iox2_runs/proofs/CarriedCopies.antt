@@ -24,8 +24,8 @@ use Rattle.iox2_pubsub.specs.Live.{IsBlockedSend, blocked_key, lender_key, publi
 use Rattle.iox2_pubsub.proofs.LiveParts.{blocked-parts}
 use Rattle.iox2_laws.proofs.SendsRemain.{send_waits_with}
 use Rattle.iox2_laws.proofs.Waits.{Waits, send_waits}
-use Rattle.iox2_pubsub.specs.SendCalls.{IfBlocked, IsOfHandler, Sends, messages_after, sent_result}
-use Rattle.iox2_pubsub.specs.WrittenLoans.{SendsCopy, SendsGranted, RefusesLoan}
+use Rattle.iox2_pubsub.specs.SendCalls.{IfBlocked, IsOfHandler, Sends, messages_after_send, sent_result}
+use Rattle.iox2_pubsub.specs.WrittenLoans.{SendsValue, SendsLentValue, LendsNothing}
 use Rattle.iox2_pubsub.specs.declared.publisher.Publisher.{Publisher as PublisherHandle}
 use Rattle.iox2_pubsub.specs.declared.sample_mut.SampleMut.{SampleMut}
 use Rattle.iox2_pubsub.specs.declared.send_outcome.SendOutcome.{SendOutcome}
@@ -34,7 +34,7 @@ use Rattle.iox2_commands.specs.Outcomes.{Handle, No_handle, Loan_handle, Blocked
 use Rattle.iox2_commands.specs.Runs.{Defaults}
 use Rattle.iox2_commands.specs.declared.command.Command.TheVariants.{Loan as LoanDefault, SendCopy}
 use Rattle.iox2_commands.specs.declared.reply.Reply.TheVariants.{Skipped, Loaned, LoanRefused, Delivered, Blocked, SendRefused}
-use Rattle.iox2_runs.specs.Tables.{port_of, TableEntry, No_entry, Publisher_entry, Written_entry, IsUnblocked, HasNoBox, IsTable}
+use Rattle.iox2_runs.specs.Tables.{port_of, TableEntry, No_entry, Publisher_entry, Written_entry, IsUnblockedPort, HasNoBox, IsTable}
 use Rattle.iox2_runs.specs.RunSteps.{Comes}
 use Rattle.iox2_runs.specs.Carries.{entry_for, Carries}
 use Rattle.iox2_runs.specs.SendReplies.{reply_to_send, made_by_send}
@@ -52,7 +52,7 @@ use Rattle.iox2_runs.proofs.TableLooks.{is_publisher_entry, handle_of, publisher
 
 module _ {T U F G : Type 0} (environment : Environment) (defaults : Defaults T U) (new : Domain T U F G) (table : List Made) (of : ℕ) (h : PublisherHandle) (value : T) (m : Messages T U) (s : State T U) (handles : List Handle) (events : List (Event T U)) (w : IsTable s handles events (map entry_for table)) (default_value : T) (default_header : U)
     (is_value : defaults.IsDefaultValue default_value) (is_header : defaults.IsDefaultHeader default_header)
-    (stand : slice_get (map entry_for table) of ≡ Some (Publisher_entry h.service_id h.id)) (unblocked : IsUnblocked s h.id) (alone : is_single_valued s.config ≡ true)
+    (stand : slice_get (map entry_for table) of ≡ Some (Publisher_entry h.service_id h.id)) (unblocked : IsUnblockedPort s h.id) (alone : is_single_valued s.config ≡ true)
     (header : U) (is_default : defaults.IsDefaultHeader header) (mid : State T U) (grants : GrantWrittenLoan fixed_handlers value header false 1 s h.id mid None)
     (l : Loan T U) (out : mid.loans s.next_message ≡ Some l) where
   lender : l.publisher ≡ h.id
@@ -128,7 +128,7 @@ module _ {T U F G : Type 0} (defaults : Defaults T U) (old new : Domain T U F G)
       (lacks is_publisher_entry refl table of other) shown
 
   -- the publisher waits for a receiver
-  pub default_held_up : (h : PublisherHandle) → slice_index_or table of Nothing ≡ MadePublisher h → ((m : Messages T U) (s : State T U) → Shows old m s → IsUnblocked s h.id → ⊥) → Carries fixed_handlers defaults old old table (LoanDefault of) Skipped table Nothing
+  pub default_held_up : (h : PublisherHandle) → slice_index_or table of Nothing ≡ MadePublisher h → ((m : Messages T U) (s : State T U) → Shows old m s → IsUnblockedPort s h.id → ⊥) → Carries fixed_handlers defaults old old table (LoanDefault of) Skipped table Nothing
   default_held_up h at waits = λ m s handles events shown w default_value default_header is_value is_header.
       default_waiting fixed_handlers defaults (Shows old) m s handles events (map entry_for table) w default_value default_header is_value is_header of h.service_id h.id
       (entry-stands table of (MadePublisher h) at (λ e. let clash : MadePublisher h ≡ Nothing = e in cc)) (waits m s shown) shown
@@ -138,7 +138,7 @@ module _ {T U F G : Type 0} (defaults : Defaults T U) (old new : Domain T U F G)
       default_elsewhere fixed_handlers defaults (Shows old) m s handles events (map entry_for table) w default_value default_header is_value is_header of
       (ap (λ (t : State T U). is_single_valued t.config) shown.state ∙ other) shown
 
-  pub default_carried : (h : PublisherHandle) (h' : SampleMut) → slice_index_or table of Nothing ≡ MadePublisher h → ((m : Messages T U) (s : State T U) → Shows old m s → IsUnblocked s h.id)
+  pub default_carried : (h : PublisherHandle) (h' : SampleMut) → slice_index_or table of Nothing ≡ MadePublisher h → ((m : Messages T U) (s : State T U) → Shows old m s → IsUnblockedPort s h.id)
       → is_single_valued old.config ≡ true
       → ((m : Messages T U) (s : State T U) → Shows old m s → (s' : State T U) × Shows new m s'
       × ((value : T) × defaults.IsDefaultValue value × (header : U) × defaults.IsDefaultHeader header × GrantWrittenLoan (loan_memory s h.id) value header false 1 s h.id s' None))
@@ -155,7 +155,7 @@ module _ {T U F G : Type 0} (defaults : Defaults T U) (old new : Domain T U F G)
       loan.0 loan.1 loan.2 loan.3 lent.0 (written_any (loan_memory s h.id) loan.0 loan.2 s h.id lent.0 None loan.4) lent.1
       h'.service_id (service ∙ sym (ap (λ (t : State T U). (t.config).service_id) (lent.1).state)))
 
-  pub default_denied : (h : PublisherHandle) (e : LoanError) → slice_index_or table of Nothing ≡ MadePublisher h → ((m : Messages T U) (s : State T U) → Shows old m s → IsUnblocked s h.id)
+  pub default_denied : (h : PublisherHandle) (e : LoanError) → slice_index_or table of Nothing ≡ MadePublisher h → ((m : Messages T U) (s : State T U) → Shows old m s → IsUnblockedPort s h.id)
       → is_single_valued old.config ≡ true
       → ((m : Messages T U) (s : State T U) → Shows old m s → (s' : State T U) × Shows new m s'
       × ((s' ≡ s) × ((value : T) (header : U) → GrantWrittenLoan (loan_memory s h.id) value header false 1 s h.id s' (Some e))))
@@ -179,7 +179,7 @@ module _ {T U F G : Type 0} (defaults : Defaults T U) (old new : Domain T U F G)
       (ap (λ (t : State T U). is_single_valued t.config) shown.state ∙ other) shown
 
   -- the publisher waits for a receiver
-  pub copy_held_up : (value : T) (h : PublisherHandle) → slice_index_or table of Nothing ≡ MadePublisher h → ((m : Messages T U) (s : State T U) → Shows old m s → IsUnblocked s h.id → ⊥)
+  pub copy_held_up : (value : T) (h : PublisherHandle) → slice_index_or table of Nothing ≡ MadePublisher h → ((m : Messages T U) (s : State T U) → Shows old m s → IsUnblockedPort s h.id → ⊥)
       → Carries fixed_handlers defaults old old table (SendCopy of value) Skipped table Nothing
   copy_held_up value h at waits = λ m s handles events shown w default_value default_header is_value is_header.
       copy_waiting fixed_handlers defaults (Shows old) m s handles events (map entry_for table) w default_value default_header is_value is_header of h.service_id h.id value
@@ -187,9 +187,9 @@ module _ {T U F G : Type 0} (defaults : Defaults T U) (old new : Domain T U F G)
 
 module _ {T U F G : Type 0} (environment : Environment) (defaults : Defaults T U) (old new : Domain T U F G) (table : List Made) (of : ℕ) where
   -- the copy is sent: to all receivers, or it waits for one
-  pub copy_carried : (h : PublisherHandle) (value : T) (outcome : SendOutcome) → slice_index_or table of Nothing ≡ MadePublisher h → ((m : Messages T U) (s : State T U) → Shows old m s → IsUnblocked s h.id)
+  pub copy_carried : (h : PublisherHandle) (value : T) (outcome : SendOutcome) → slice_index_or table of Nothing ≡ MadePublisher h → ((m : Messages T U) (s : State T U) → Shows old m s → IsUnblockedPort s h.id)
       → is_single_valued old.config ≡ true
-      → ((m : Messages T U) (s : State T U) → Shows old m s → (m' : Messages T U) × (s' : State T U) × Shows new m' s' × SendsGranted environment defaults.IsDefaultHeader m s h.id value (Ok outcome) m' s')
+      → ((m : Messages T U) (s : State T U) → Shows old m s → (m' : Messages T U) × (s' : State T U) × Shows new m' s' × SendsLentValue environment defaults.IsDefaultHeader m s h.id value (Ok outcome) m' s')
       → IfBlocked outcome (λ blocked. IsBlockedSend new blocked × (lender_key (blocked_key blocked) ≡ publisher_key h))
       → Carries fixed_handlers defaults old new table (SendCopy of value) (reply_to_send (Ok outcome)) table (made_by_send (Ok outcome))
   copy_carried h value outcome at free single sends blocked = λ m s handles events shown w default_value default_header is_value is_header.
@@ -200,10 +200,10 @@ module _ {T U F G : Type 0} (environment : Environment) (defaults : Defaults T U
       it.user_header it.default it.granted (written_any (loan_memory s h.id) value it.user_header s h.id it.granted None it.grants) it.loan it.out outcome blocked sent.1 it.sends
       (subst (λ (k : Messages T U). Shows new k sent.1) it.messages sent.2)
 
-  pub copy_denied : (h : PublisherHandle) (value : T) (error : SendError) → slice_index_or table of Nothing ≡ MadePublisher h → ((m : Messages T U) (s : State T U) → Shows old m s → IsUnblocked s h.id)
+  pub copy_denied : (h : PublisherHandle) (value : T) (error : SendError) → slice_index_or table of Nothing ≡ MadePublisher h → ((m : Messages T U) (s : State T U) → Shows old m s → IsUnblockedPort s h.id)
       → is_single_valued old.config ≡ true
       → ((m : Messages T U) (s : State T U) → Shows old m s → (m' : Messages T U) × (s' : State T U) × Shows new m' s'
-      × ((IsOfHandler error × SendsGranted environment defaults.IsDefaultHeader m s h.id value (Err error) m' s') ⊎ RefusesLoan m s h.id error m' s'))
+      × ((IsOfHandler error × SendsLentValue environment defaults.IsDefaultHeader m s h.id value (Err error) m' s') ⊎ LendsNothing m s h.id error m' s'))
       → Carries fixed_handlers defaults old new table (SendCopy of value) (SendRefused error) table Nothing
   copy_denied h value error at free single sends = λ m s handles events shown w default_value default_header is_value is_header.
       let came = sends m s shown in
@@ -219,13 +219,13 @@ module _ {T U F G : Type 0} (environment : Environment) (defaults : Defaults T U
                   (copied-failing environment defaults new table of h value m s handles events w default_value default_header is_value is_header stand (free m s shown) alone
                   it.user_header it.default it.granted granted it.loan it.out came.1
                   (subst (λ (e : SendError). Sends environment it.granted s.next_message it.loan (Err e) came.1) undelivered it.sends)
-                  (subst (λ (k : Messages T U). Shows new k came.1) (it.messages ∙ ap (λ (e : SendError). messages_after m s.next_message it.loan (Err e)) undelivered) came.2))
+                  (subst (λ (k : Messages T U). Shows new k came.1) (it.messages ∙ ap (λ (e : SendError). messages_after_send m s.next_message it.loan (Err e)) undelivered) came.2))
               | inr unconnected ↦
                   subst (λ (e : SendError). Comes fixed_handlers defaults (Shows new) m s handles events (SendCopy of value) (SendRefused e) (map entry_for table ++ No_entry ∷ [])) (sym unconnected.1)
                   (copied-unconnected environment defaults new table of h value m s handles events w default_value default_header is_value is_header stand (free m s shown) alone
                   it.user_header it.default it.granted granted it.loan it.out unconnected.0 came.1
                   (subst (λ (e : SendError). Sends environment it.granted s.next_message it.loan (Err e) came.1) unconnected.1 it.sends)
-                  (subst (λ (k : Messages T U). Shows new k came.1) (it.messages ∙ ap (λ (e : SendError). messages_after m s.next_message it.loan (Err e)) unconnected.1) came.2))
+                  (subst (λ (k : Messages T U). Shows new k came.1) (it.messages ∙ ap (λ (e : SendError). messages_after_send m s.next_message it.loan (Err e)) unconnected.1) came.2))
             ]
         | inr it ↦
             subst (λ (e : SendError). Comes fixed_handlers defaults (Shows new) m s handles events (SendCopy of value) (SendRefused e) (map entry_for table ++ No_entry ∷ [])) (sym it.is)
@@ -237,8 +237,8 @@ module _ {T U F G : Type 0} (environment : Environment) (defaults : Defaults T U
 
   -- whichever it is
   pub copy_came : (h : PublisherHandle) (value : T) (result : Result SendOutcome SendError) → slice_index_or table of Nothing ≡ MadePublisher h
-      → ((m : Messages T U) (s : State T U) → Shows old m s → IsUnblocked s h.id) → is_single_valued old.config ≡ true
-      → ((m : Messages T U) (s : State T U) → Shows old m s → (m' : Messages T U) × (s' : State T U) × Shows new m' s' × SendsCopy environment defaults.IsDefaultHeader m s h.id value result m' s')
+      → ((m : Messages T U) (s : State T U) → Shows old m s → IsUnblockedPort s h.id) → is_single_valued old.config ≡ true
+      → ((m : Messages T U) (s : State T U) → Shows old m s → (m' : Messages T U) × (s' : State T U) × Shows new m' s' × SendsValue environment defaults.IsDefaultHeader m s h.id value result m' s')
       → IfOk result (λ outcome. IfBlocked outcome (λ blocked. IsBlockedSend new blocked × (lender_key (blocked_key blocked) ≡ publisher_key h)))
       → Carries fixed_handlers defaults old new table (SendCopy of value) (reply_to_send result) table (made_by_send result)
   copy_came h value (Ok outcome) at free single sends blocked = copy_carried h value outcome at free single sends blocked

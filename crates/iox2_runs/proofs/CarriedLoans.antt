@@ -18,7 +18,7 @@ use Rattle.iox2_machine.specs.declared.key.Key.{Key}
 use Rattle.iox2_domain.specs.Lending.{loan_memory}
 use Rattle.iox2_domain.specs.Shows.{Shows}
 use Rattle.iox2_pubsub.specs.Live.{IsBlockedSend, blocked_key, written_key}
-use Rattle.iox2_pubsub.specs.SendCalls.{FailsSend, IfBlocked, IsOfHandler, Sends, messages_after, result_of_send, FailsDelivery}
+use Rattle.iox2_pubsub.specs.SendCalls.{FailsSend, IfBlocked, IsOfHandler, Sends, messages_after_send, result_of_send, FailsDelivery}
 use Rattle.iox2_pubsub.specs.declared.publisher.Publisher.{Publisher as PublisherHandle}
 use Rattle.iox2_pubsub.specs.declared.send_outcome.SendOutcome.{SendOutcome}
 use Rattle.iox2_pubsub.specs.declared.send_outcome.SendOutcome.TheVariants.{Delivered as WasDelivered, Blocked as IsBlocked}
@@ -26,7 +26,7 @@ use Rattle.iox2_pubsub.specs.declared.sample_mut_uninit.SampleMutUninit.{SampleM
 use Rattle.iox2_pubsub.specs.declared.sample_mut.SampleMut.{SampleMut}
 use Rattle.iox2_commands.specs.Outcomes.{Handle, No_handle, Loan_handle, Blocked_handle, Sample_handle, Event, No_event, Message_sent}
 use Rattle.iox2_commands.specs.Runs.{Defaults}
-use Rattle.iox2_runs.specs.Tables.{TableEntry, No_entry, Unwritten_entry, Written_entry, IsUnblocked, HasNoBox, IsTable}
+use Rattle.iox2_runs.specs.Tables.{TableEntry, No_entry, Unwritten_entry, Written_entry, IsUnblockedPort, HasNoBox, IsTable}
 use Rattle.iox2_runs.specs.RunSteps.{Comes}
 use Rattle.iox2_runs.specs.Carries.{entry_for, Carries}
 use Rattle.iox2_runs.specs.SendReplies.{reply_to_send, made_by_send}
@@ -81,13 +81,13 @@ module _ {T U F G : Type 0} (environment : Environment) (defaults : Defaults T U
       (ap (λ (t : State T U). is_single_valued t.config) shown.state ∙ other) shown
 
   -- the publisher waits for a receiver
-  pub loan_held_up : (h : PublisherHandle) → slice_index_or table of Nothing ≡ MadePublisher h → ((m : Messages T U) (s : State T U) → Shows old m s → IsUnblocked s h.id → ⊥)
+  pub loan_held_up : (h : PublisherHandle) → slice_index_or table of Nothing ≡ MadePublisher h → ((m : Messages T U) (s : State T U) → Shows old m s → IsUnblockedPort s h.id → ⊥)
       → Carries environment defaults old old table (LoanUninit of) Skipped table Nothing
   loan_held_up h at waits = λ m s handles events shown w default_value default_header is_value is_header.
       loan_waiting environment defaults (Shows old) m s handles events (map entry_for table) w default_value default_header is_value is_header of h.service_id h.id
       (entry-stands table of (MadePublisher h) at (λ e. let clash : MadePublisher h ≡ Nothing = e in cc)) (waits m s shown) shown
 
-  pub loan_carried : (h : PublisherHandle) (h' : SampleMutUninit) → slice_index_or table of Nothing ≡ MadePublisher h → ((m : Messages T U) (s : State T U) → Shows old m s → IsUnblocked s h.id)
+  pub loan_carried : (h : PublisherHandle) (h' : SampleMutUninit) → slice_index_or table of Nothing ≡ MadePublisher h → ((m : Messages T U) (s : State T U) → Shows old m s → IsUnblockedPort s h.id)
       → is_single_valued old.config ≡ true
       → ((m : Messages T U) (s : State T U) → Shows old m s → (s' : State T U) × Shows new m s'
       × ((header : U) × defaults.IsDefaultHeader header × GrantLoan (loan_memory s h.id) header false 1 s h.id s' None))
@@ -105,7 +105,7 @@ module _ {T U F G : Type 0} (environment : Environment) (defaults : Defaults T U
       loan.0 loan.1 lent.0 (loan_any (loan_memory s h.id) loan.0 false 1 s h.id lent.0 None loan.2) lent.1
       h'.service_id (service ∙ sym (ap (λ (t : State T U). (t.config).service_id) (lent.1).state)))
 
-  pub loan_denied : (h : PublisherHandle) (e : LoanError) → slice_index_or table of Nothing ≡ MadePublisher h → ((m : Messages T U) (s : State T U) → Shows old m s → IsUnblocked s h.id)
+  pub loan_denied : (h : PublisherHandle) (e : LoanError) → slice_index_or table of Nothing ≡ MadePublisher h → ((m : Messages T U) (s : State T U) → Shows old m s → IsUnblockedPort s h.id)
       → is_single_valued old.config ≡ true
       → ((m : Messages T U) (s : State T U) → Shows old m s → (s' : State T U) × Shows new m s' × ((s' ≡ s) × ((header : U) → GrantLoan (loan_memory s h.id) header false 1 s h.id s' (Some e))))
       → Carries fixed_handlers defaults old new table (LoanUninit of) (LoanRefused e) table Nothing
@@ -124,7 +124,7 @@ module _ {T U F G : Type 0} (environment : Environment) (defaults : Defaults T U
       (lacks is_written_entry refl table of other) shown
 
   -- its publisher waits for a receiver
-  pub send_held_up : (h : SampleMut) → slice_index_or table of Nothing ≡ Written h → ((m : Messages T U) (s : State T U) → Shows old m s → IsUnblocked s h.loan.publisher → ⊥) → Carries environment defaults old old table (SendLoan of) Skipped table Nothing
+  pub send_held_up : (h : SampleMut) → slice_index_or table of Nothing ≡ Written h → ((m : Messages T U) (s : State T U) → Shows old m s → IsUnblockedPort s h.loan.publisher → ⊥) → Carries environment defaults old old table (SendLoan of) Skipped table Nothing
   send_held_up h at waits = λ m s handles events shown w default_value default_header is_value is_header.
       send_waiting environment defaults (Shows old) m s handles events (map entry_for table) w default_value default_header is_value is_header of h.service_id h.loan.publisher h.loan.number
       (entry-stands table of (Written h) at (λ e. let clash : Written h ≡ Nothing = e in cc)) (waits m s shown) shown
@@ -146,7 +146,7 @@ module _ {T U F G : Type 0} (defaults : Defaults T U) (new : Domain T U F G) (ta
     → WhatComes fixed_handlers defaults (Shows new) m s handles events (map entry_for table) command of h.loan.publisher h.loan.number l s' result)
     (unboxed : (s' : State T U) (result : SendResult) → Sent s' result → HasNoBox s' h.loan.publisher) where
   pub sent-by : (came : Result SendOutcome SendError) → IfOk came (λ it. IfBlocked it (λ blocked. IsBlockedSend new blocked × (blocked_key blocked ≡ written_key h)))
-      → IfErr came (λ error. (error ≡ ConnectionBrokenSinceSenderNoLongerExists) ⊎ IsOfHandler error) → (s' : State T U) → Shows new (messages_after m h.loan.number l came) s' → Sent s' (result_of_send came)
+      → IfErr came (λ error. (error ≡ ConnectionBrokenSinceSenderNoLongerExists) ⊎ IsOfHandler error) → (s' : State T U) → Shows new (messages_after_send m h.loan.number l came) s' → Sent s' (result_of_send came)
       → Comes fixed_handlers defaults (Shows new) m s handles events command (reply_to_send came) (slice_set (map entry_for table) of No_entry ++ entry_for (made_by_send came) ∷ [])
   sent-by (Ok (WasDelivered count)) waits broken s' shown sends =
       comes s' (Delivered_to count) sends (Delivered count) No_handle (Message_sent l.publisher h.loan.number (entry_of l)) No_entry refl refl
@@ -158,19 +158,19 @@ module _ {T U F G : Type 0} (defaults : Defaults T U) (new : Domain T U F G) (ta
       (λ p k e. let same : Blocked_handle h.loan.publisher h.loan.number ≡ Blocked_handle p k = e in (cc, cc)) shown (blocked_entry new _ s' shown blocked waits.0 (written_key h) waits.1 (unboxed s' Blocked_send sends))
   sent-by (Err error) waits (inr (inl failed)) s' shown sends =
       let so : Sent s' (Send_error UnableToDeliver) = subst (λ (e : SendError). Sent s' (Send_error e)) failed sends in
-      let there : Shows new (messages_after m h.loan.number l (Err UnableToDeliver)) s' = subst (λ (e : SendError). Shows new (messages_after m h.loan.number l (Err e)) s') failed shown in
+      let there : Shows new (messages_after_send m h.loan.number l (Err UnableToDeliver)) s' = subst (λ (e : SendError). Shows new (messages_after_send m h.loan.number l (Err e)) s') failed shown in
       subst (λ (e : SendError). Comes fixed_handlers defaults (Shows new) m s handles events command (SendRefused e) (slice_set (map entry_for table) of No_entry ++ No_entry ∷ [])) (sym failed)
       (comes s' (Send_error UnableToDeliver) so (SendRefused UnableToDeliver) No_handle (Message_sent l.publisher h.loan.number (entry_of l)) No_entry refl refl
       (λ k e. let clash : No_handle ≡ Loan_handle k = e in absurd cc) (λ p q k e. let clash : No_handle ≡ Sample_handle p q k = e in absurd cc) (λ p k e. let clash : No_handle ≡ Blocked_handle p k = e in absurd cc) there tt)
   sent-by (Err error) waits (inr (inr unconnected)) s' shown sends =
       let so : Sent s' (Send_error (ConnectionError unconnected.0)) = subst (λ (e : SendError). Sent s' (Send_error e)) unconnected.1 sends in
-      let there : Shows new m s' = subst (λ (e : SendError). Shows new (messages_after m h.loan.number l (Err e)) s') unconnected.1 shown in
+      let there : Shows new m s' = subst (λ (e : SendError). Shows new (messages_after_send m h.loan.number l (Err e)) s') unconnected.1 shown in
       subst (λ (e : SendError). Comes fixed_handlers defaults (Shows new) m s handles events command (SendRefused e) (slice_set (map entry_for table) of No_entry ++ No_entry ∷ [])) (sym unconnected.1)
       (comes s' (Send_error (ConnectionError unconnected.0)) so (SendRefused (ConnectionError unconnected.0)) No_handle No_event No_entry refl refl
       (λ k e. let clash : No_handle ≡ Loan_handle k = e in absurd cc) (λ p q k e. let clash : No_handle ≡ Sample_handle p q k = e in absurd cc) (λ p k e. let clash : No_handle ≡ Blocked_handle p k = e in absurd cc) there tt)
   sent-by (Err error) waits (inl broken) s' shown sends =
       let so : Sent s' (Send_error ConnectionBrokenSinceSenderNoLongerExists) = subst (λ (e : SendError). Sent s' (Send_error e)) broken sends in
-      let there : Shows new m s' = subst (λ (e : SendError). Shows new (messages_after m h.loan.number l (Err e)) s') broken shown in
+      let there : Shows new m s' = subst (λ (e : SendError). Shows new (messages_after_send m h.loan.number l (Err e)) s') broken shown in
       subst (λ (e : SendError). Comes fixed_handlers defaults (Shows new) m s handles events command (SendRefused e) (slice_set (map entry_for table) of No_entry ++ No_entry ∷ [])) (sym broken)
       (comes s' (Send_error ConnectionBrokenSinceSenderNoLongerExists) so (SendRefused ConnectionBrokenSinceSenderNoLongerExists) No_handle No_event No_entry refl refl
       (λ k e. let clash : No_handle ≡ Loan_handle k = e in absurd cc) (λ p q k e. let clash : No_handle ≡ Sample_handle p q k = e in absurd cc) (λ p k e. let clash : No_handle ≡ Blocked_handle p k = e in absurd cc) there tt)
@@ -178,9 +178,9 @@ module _ {T U F G : Type 0} (defaults : Defaults T U) (new : Domain T U F G) (ta
 module _ {T U F G : Type 0} (environment : Environment) (defaults : Defaults T U) (old new : Domain T U F G) (table table' : List Made) (of : ℕ) where
   -- the loan is sent: to all receivers, or it waits for one, or its publisher is gone, or a handler failed the send
   pub send_carried : (h : SampleMut) (outcome : Result SendOutcome SendError) → slice_index_or table of Nothing ≡ Written h
-      → ((m : Messages T U) (s : State T U) → Shows old m s → IsUnblocked s h.loan.publisher)
+      → ((m : Messages T U) (s : State T U) → Shows old m s → IsUnblockedPort s h.loan.publisher)
       → ((m : Messages T U) (s : State T U) (l : Loan T U) → Shows old m s → s.loans h.loan.number ≡ Some l
-      → (s' : State T U) × Shows new (messages_after m h.loan.number l outcome) s' × Sends environment s h.loan.number l outcome s')
+      → (s' : State T U) × Shows new (messages_after_send m h.loan.number l outcome) s' × Sends environment s h.loan.number l outcome s')
       → IfOk outcome (λ came. IfBlocked came (λ blocked. IsBlockedSend new blocked × (blocked_key blocked ≡ written_key h)))
       → IfErr outcome (λ error. (error ≡ ConnectionBrokenSinceSenderNoLongerExists) ⊎ IsOfHandler error)
       → table' ≡ slice_set table of Nothing

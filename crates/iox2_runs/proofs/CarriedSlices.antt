@@ -16,7 +16,7 @@ use Rattle.iox2_commands.specs.declared.reply.Reply.TheVariants.{Skipped, Loaned
 use Rattle.iox2_runs.specs.Carries.{entry_for, Carries}
 use Rattle.iox2_runs.specs.RunSteps.{Comes}
 use Rattle.iox2_runs.specs.Services.{has_slices}
-use Rattle.iox2_runs.specs.Tables.{TableEntry, Unwritten_entry, IsUnblocked}
+use Rattle.iox2_runs.specs.Tables.{TableEntry, Unwritten_entry, IsUnblockedPort}
 use Rattle.iox2_runs.specs.declared.runs.made.Made.{Made}
 use Rattle.iox2_runs.specs.declared.runs.made.Made.TheVariants.{Nothing, Publisher as MadePublisher, Unwritten}
 use Rattle.iox2_runs.proofs.TableEntries.{entry-stands, lacks}
@@ -37,13 +37,13 @@ module _ {T U F G : Type 0} (defaults : Defaults T U) (old new : Domain T U F G)
       (ap (λ (t : State T U). has_slices t.config) shown.state ∙ other) shown
 
   -- the publisher waits for a receiver
-  pub slice_held_up : (h : PublisherHandle) → slice_index_or table of Nothing ≡ MadePublisher h → ((m : Messages T U) (s : State T U) → Shows old m s → IsUnblocked s h.id → ⊥)
+  pub slice_held_up : (h : PublisherHandle) → slice_index_or table of Nothing ≡ MadePublisher h → ((m : Messages T U) (s : State T U) → Shows old m s → IsUnblockedPort s h.id → ⊥)
       → Carries fixed_handlers defaults old old table (LoanSlice of len) Skipped table Nothing
   slice_held_up h at waits = λ m s handles events shown w default_value default_header is_value is_header.
       slice_waiting fixed_handlers defaults (Shows old) m s handles events (map entry_for table) w default_value default_header is_value is_header of len h.service_id h.id
       (entry-stands table of (MadePublisher h) at (λ e. let clash : MadePublisher h ≡ Nothing = e in cc)) (waits m s shown) shown
 
-  module _ (h : PublisherHandle) (at : slice_index_or table of Nothing ≡ MadePublisher h) (free : (m : Messages T U) (s : State T U) → Shows old m s → IsUnblocked s h.id)
+  module _ (h : PublisherHandle) (at : slice_index_or table of Nothing ≡ MadePublisher h) (free : (m : Messages T U) (s : State T U) → Shows old m s → IsUnblockedPort s h.id)
       (slices : has_slices old.config ≡ true) where
     -- the loan is granted
     pub slice_carried : (h' : SampleMutUninit)

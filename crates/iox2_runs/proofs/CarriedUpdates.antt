@@ -20,7 +20,7 @@ use Rattle.iox2_pubsub.specs.declared.subscriber.Subscriber.{Subscriber as Subsc
 use Rattle.iox2_commands.specs.Outcomes.{replied}
 use Rattle.iox2_commands.specs.Runs.{Defaults}
 use Rattle.iox2_commands.specs.Step.{after_update}
-use Rattle.iox2_runs.specs.Tables.{IsUnblocked}
+use Rattle.iox2_runs.specs.Tables.{IsUnblockedPort}
 use Rattle.iox2_runs.specs.Carries.{entry_for, Carries}
 use Rattle.iox2_commands.specs.declared.command.Command.TheVariants.{Update}
 use Rattle.iox2_commands.specs.declared.reply.Reply.{Reply}
@@ -52,7 +52,7 @@ module _ {T U F G : Type 0} (environment : Environment) (defaults : Defaults T U
       shown
 
   -- a publisher is updated, and this is replied
-  pub update_of_publisher : (h : PublisherHandle) (failure : Option ConnectionFailure) (reply : Reply T U) → slice_index_or table of Nothing ≡ MadePublisher h → ((m : Messages T U) (s : State T U) → Shows old m s → IsUnblocked s h.id)
+  pub update_of_publisher : (h : PublisherHandle) (failure : Option ConnectionFailure) (reply : Reply T U) → slice_index_or table of Nothing ≡ MadePublisher h → ((m : Messages T U) (s : State T U) → Shows old m s → IsUnblockedPort s h.id)
       → ((m : Messages T U) (s : State T U) → Shows old m s → (s' : State T U) × Shows new m s' × UpdatePublisher environment s h.id s' failure)
       → reply ≡ update_reply failure → Carries environment defaults old new table (Update of) reply table Nothing
   update_of_publisher h failure reply at free updates is = λ m s handles events shown w default_value default_header is_value is_header.
@@ -66,7 +66,7 @@ module _ {T U F G : Type 0} (environment : Environment) (defaults : Defaults T U
       (update_publisher_advances environment s h.id s' failure updated.2).next_message
 
   -- one that waits for a receiver isn't
-  pub update_held_up : (h : PublisherHandle) → slice_index_or table of Nothing ≡ MadePublisher h → ((m : Messages T U) (s : State T U) → Shows old m s → IsUnblocked s h.id → ⊥) → Carries environment defaults old old table (Update of) Skipped table Nothing
+  pub update_held_up : (h : PublisherHandle) → slice_index_or table of Nothing ≡ MadePublisher h → ((m : Messages T U) (s : State T U) → Shows old m s → IsUnblockedPort s h.id → ⊥) → Carries environment defaults old old table (Update of) Skipped table Nothing
   update_held_up h at waits = λ m s handles events shown w default_value default_header is_value is_header.
       let stand = entry-stands table of (MadePublisher h) at (λ e. let clash : MadePublisher h ≡ Nothing = e in cc) in
       skip_comes environment defaults (Shows old) m s handles events (map entry_for table) w default_value default_header is_value is_header (Update of)

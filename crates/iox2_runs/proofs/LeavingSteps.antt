@@ -6,7 +6,7 @@ use Rattle.std.specs.declared.result.Result.TheVariants.{Ok, Err}
 use Rattle.iox2_machine.specs.declared.errors.SendError.{SendError}
 use Rattle.iox2_machine.specs.declared.service_config.ServiceConfig.{ServiceConfig}
 use Rattle.iox2_domain.specs.Kept.{Kept as Domain}
-use Rattle.iox2_pubsub.specs.Live.{Item, No_item, A_loan, A_blocked_send, Both, Stays, StaysBut, IsNewIn, blocked_send}
+use Rattle.iox2_pubsub.specs.Live.{Item, No_item, A_loan, A_blocked_send, Both, Stays, StaysBut, IsNewIn, blocked_item}
 use Rattle.iox2_pubsub.specs.SendCalls.{IfBlocked, is_blocked_send, spent_by_send, spent_by_copy}
 use Rattle.iox2_pubsub.specs.declared.blocked_send.BlockedSend.{BlockedSend}
 use Rattle.iox2_pubsub.specs.declared.publisher.Publisher.{Publisher}
@@ -14,7 +14,7 @@ use Rattle.iox2_pubsub.specs.declared.sample_mut.SampleMut.{SampleMut}
 use Rattle.iox2_pubsub.specs.declared.send_outcome.SendOutcome.{SendOutcome}
 use Rattle.iox2_pubsub.specs.declared.send_outcome.SendOutcome.TheVariants.{Delivered as WasDelivered, Blocked as IsBlocked}
 use Rattle.iox2_pubsub.proofs.StaysBut.{new-since, stays-on, nothing-is-new, both-new, part-new, second-part, sent-loan-part, sent-copy-part, blocked-new}
-use Rattle.iox2_runs.specs.Leaves.{item_of, AreNewIn, Leaves}
+use Rattle.iox2_runs.specs.Leaves.{item_of, AreNewIn, LeavesTable}
 use Rattle.iox2_runs.specs.Placed.{ArePlaced, IsPlacedMade}
 use Rattle.iox2_runs.specs.SendReplies.{made_by_send}
 use Rattle.iox2_runs.specs.Services.{lacks_cells}
@@ -87,14 +87,14 @@ module _ {T U F G : Type 0} (old new : Domain T U F G) (table : List Made) where
   }
 
   -- a command that changes nothing
-  pub leaves-all : (table' : List Made) → old ≡ new → table' ≡ table → Leaves old new table table' Nothing
+  pub leaves-all : (table' : List Made) → old ≡ new → table' ≡ table → LeavesTable old new table table' Nothing
   leaves-all table' same is = record {
     live = λ start before are. (subst (Stays start) same before, subst (AreNewIn start) (sym is) are, nothing-is-new start);
     placed = λ are. (subst (ArePlaced new) (sym is) (subst (λ (d : Domain T U F G). ArePlaced d table) same are), tt);
   }
 
   -- one that spends nothing, and may make something
-  pub leaves-making : Stays old new → (made : Made) → IsNewIn old (item_of made) → IsPlacedMade new made → Leaves old new table table made
+  pub leaves-making : Stays old new → (made : Made) → IsNewIn old (item_of made) → IsPlacedMade new made → LeavesTable old new table table made
   leaves-making stays made is placed = record {
     live = λ start before are. (stays-on start old before No_item new (nothing-is-new start) stays, are, new-since start old before (item_of made) is);
     placed = λ are. (all-placed No_item stays are, placed);
@@ -106,7 +106,7 @@ module _ {T U F G : Type 0} (old new : Domain T U F G) (table : List Made) where
       → ((start : Domain T U F G) → IsNewIn start (item_of made) → IsNewIn start (item_of put))
       → ((start : Domain T U F G) → Stays start old → IsNewIn start (item_of made) → IsNewIn start (item_of made'))
       → (IsPlacedMade new made → IsPlacedMade new put) → IsPlacedMade new made'
-      → table' ≡ slice_set table of put → Leaves old new table table' made'
+      → table' ≡ slice_set table of put → LeavesTable old new table table' made'
   leaves-using table' of made put made' at spent stays spends puts makes placed placed' is = record {
     live = λ start before are.
         let new-one : IsNewIn start (item_of made) = subst (λ (h : Made). IsNewIn start (item_of h)) at (are of) in (
@@ -126,13 +126,13 @@ module _ {T U F G : Type 0} (old new : Domain T U F G) (table : List Made) where
 
   -- one that spends what stands at a position, and may leave the same there as another handle
   pub leaves-spending : (table' : List Made) (of : ℕ) (made made' : Made) → slice_index_or table of Nothing ≡ made → StaysBut (item_of made) old new
-      → ((start : Domain T U F G) → IsNewIn start (item_of made) → IsNewIn start (item_of made')) → table' ≡ slice_set table of made' → IsPlacedMade new made' → Leaves old new table table' Nothing
+      → ((start : Domain T U F G) → IsNewIn start (item_of made) → IsNewIn start (item_of made')) → table' ≡ slice_set table of made' → IsPlacedMade new made' → LeavesTable old new table table' Nothing
   leaves-spending table' of made made' at stays put is placed =
       leaves-using table' of made made' Nothing at (item_of made) stays (λ start new-one. new-one) put (λ start before new-one. nothing-is-new start) (λ _. placed) tt is
 
   -- one that lends something of the publisher at a position
   pub leaves-lending : (table' : List Made) → table' ≡ table → (of : ℕ) (publisher : Publisher) (made : Made) (loan : Item) → slice_index_or table of Nothing ≡ MadePublisher publisher → Stays old new
-      → IsNewIn old loan → item_of made ≡ Both loan (A_blocked_send publisher.id) → IsPlacedMade new made → Leaves old new table table' made
+      → IsNewIn old loan → item_of made ≡ Both loan (A_blocked_send publisher.id) → IsPlacedMade new made → LeavesTable old new table table' made
   leaves-lending table' same of publisher made loan at stays new-loan is placed =
       leaves-using table' of (MadePublisher publisher) (MadePublisher publisher) made at No_item stays (λ start new-one. nothing-is-new start) (λ start new-one. new-one)
       (λ start before new-one. subst (IsNewIn start) (sym is)
@@ -150,7 +150,7 @@ module _ {T U F G : Type 0} (old new : Domain T U F G) (table : List Made) where
   -- one that sends the loan at a position
   pub leaves-sending : (table' : List Made) (of : ℕ) (loan : SampleMut) (outcome : Result SendOutcome SendError) → slice_index_or table of Nothing ≡ Written loan
       → StaysBut (spent_by_send loan outcome) old new → IfOk outcome (λ came. IfBlocked came (λ blocked. blocked.loan.publisher ≡ loan.loan.publisher))
-      → table' ≡ slice_set table of Nothing → Leaves old new table table' (made_by_send outcome)
+      → table' ≡ slice_set table of Nothing → LeavesTable old new table table' (made_by_send outcome)
   leaves-sending table' of loan outcome at stays its is =
       leaves-using table' of (Written loan) Nothing (made_by_send outcome) at (spent_by_send loan outcome) stays
       (λ start new-one. part-new start _ _ (sent-loan-part loan.loan.number loan.loan.publisher (is_blocked_send outcome)) new-one) (λ start new-one. nothing-is-new start)
@@ -160,7 +160,7 @@ module _ {T U F G : Type 0} (old new : Domain T U F G) (table : List Made) where
   -- one that sends a copy with the publisher at a position
   pub leaves-copying : (of : ℕ) (publisher : Publisher) (outcome : Result SendOutcome SendError) → slice_index_or table of Nothing ≡ MadePublisher publisher
       → StaysBut (spent_by_copy publisher outcome) old new → IfOk outcome (λ came. IfBlocked came (λ blocked. blocked.loan.publisher ≡ publisher.id))
-      → Leaves old new table table (made_by_send outcome)
+      → LeavesTable old new table table (made_by_send outcome)
   leaves-copying of publisher outcome at stays its =
       leaves-using table of (MadePublisher publisher) (MadePublisher publisher) (made_by_send outcome) at (spent_by_copy publisher outcome) stays
       (λ start new-one. part-new start _ _ (sent-copy-part publisher.id (is_blocked_send outcome)) (blocked-new start publisher.id new-one)) (λ start new-one. new-one)
@@ -169,7 +169,7 @@ module _ {T U F G : Type 0} (old new : Domain T U F G) (table : List Made) where
       (sym (ap (λ (h : Made). slice_set table of h) (sym at) ∙ set_same table of))
 
   -- one that goes on with the blocked send at a position
-  pub leaves-going-on : (table' : List Made) (of : ℕ) (send : BlockedSend) (outcome : Result SendOutcome SendError) → slice_index_or table of Nothing ≡ Blocked send → StaysBut (blocked_send send) old new
-      → IfOk outcome (λ came. IfBlocked came (λ blocked. blocked.loan.publisher ≡ send.loan.publisher)) → table' ≡ slice_set table of (made_by_send outcome) → Leaves old new table table' Nothing
+  pub leaves-going-on : (table' : List Made) (of : ℕ) (send : BlockedSend) (outcome : Result SendOutcome SendError) → slice_index_or table of Nothing ≡ Blocked send → StaysBut (blocked_item send) old new
+      → IfOk outcome (λ came. IfBlocked came (λ blocked. blocked.loan.publisher ≡ send.loan.publisher)) → table' ≡ slice_set table of (made_by_send outcome) → LeavesTable old new table table' Nothing
   leaves-going-on table' of send outcome at stays its is =
       leaves-spending table' of (Blocked send) (made_by_send outcome) at stays (λ start new-one. made-new send.loan.publisher outcome its start new-one) is (sent-placed new outcome)

@@ -18,9 +18,9 @@ use Rattle.iox2_pubsub.specs.declared.sample_mut_uninit.SampleMutUninit.{SampleM
 use Rattle.iox2_pubsub.specs.declared.sample_mut.SampleMut.{SampleMut}
 use Rattle.iox2_pubsub.specs.Sample.{Sample as SampleHandle}
 use Rattle.iox2_commands.specs.Outcomes.{Handle}
-use Rattle.iox2_runs.specs.Tables.{IsUnblocked as IsFree, HasNoBox, HasNoReceiverBox, IsEntryOf}
+use Rattle.iox2_runs.specs.Tables.{IsUnblockedPort as IsFree, HasNoBox, HasNoReceiverBox, IsEntryOf}
 use Rattle.iox2_runs.specs.Carries.{entry_for}
-use Rattle.iox2_runs.specs.Turns.{IsHeld}
+use Rattle.iox2_runs.specs.Turns.{IsLiveEntry}
 use Rattle.iox2_runs.specs.Placed.{IsPlacedMade}
 use Rattle.iox2_runs.specs.declared.runs.made.Made.{Made}
 use Rattle.iox2_runs.specs.declared.runs.made.Made.TheVariants.{Nothing, Publisher as MadePublisher, Subscriber as MadeSubscriber, Unwritten, Written, Blocked, Sample as MadeSample}
@@ -39,7 +39,7 @@ module _ {T U F G : Type 0} (domain : Domain T U F G) (key : Key) where
   shown_waits low answer tells is m s shown free =
       true≢false (sym is ∙ tells.1 (unblocked-free domain key (low, subst (λ (t : State T U). IsFree t key.port) shown.state free)))
 
-module _ {T U F G : Type 0} (domain : Domain T U F G) (held : Made) (keeps : IsHeld domain held) where
+module _ {T U F G : Type 0} (domain : Domain T U F G) (held : Made) (keeps : IsLiveEntry domain held) where
   -- it is the entry of some handle, in the state that the domain keeps
   has_entry : (made : Made) → held ≡ made → (made ≡ Nothing → ⊥) → (h : Handle) × IsEntryOf (state_of domain) h (entry_for made)
   has_entry made is some =

@@ -16,7 +16,7 @@ use Rattle.iox2_laws.proofs.Puts.{put_at-same, put_at-other}
 use Rattle.iox2_commands.specs.Outcomes.{Handle, No_handle, Loan_handle, Blocked_handle, Sample_handle, Event, No_event, messages_after, replied, done, skipped}
 use Rattle.iox2_commands.specs.Runs.{Defaults}
 use Rattle.iox2_commands.specs.Step.{Step, after_send}
-use Rattle.iox2_runs.specs.Tables.{port_of, TableEntry, No_entry, Unwritten_entry, Written_entry, IsSpent, IsUnblocked, IsEntryOf, IsTable}
+use Rattle.iox2_runs.specs.Tables.{port_of, TableEntry, No_entry, Unwritten_entry, Written_entry, IsSpent, IsUnblockedPort, IsEntryOf, IsTable}
 use Rattle.iox2_runs.specs.RunSteps.{Comes}
 use Rattle.iox2_commands.specs.declared.command.Command.{Command}
 use Rattle.iox2_commands.specs.declared.command.Command.TheVariants.{Nothing, WriteAll, Send as SendLoan, SendToConnection as SendLoanTo}
@@ -127,7 +127,7 @@ module _ {T U : Type 0} (environment : Environment) (defaults : Defaults T U) (S
       shown
 
   -- its publisher waits for a receiver
-  pub send_waiting : (of service p n : ℕ) → slice_get table of ≡ Some (Written_entry service p n) → (IsUnblocked s p → ⊥) → Shown m s
+  pub send_waiting : (of service p n : ℕ) → slice_get table of ≡ Some (Written_entry service p n) → (IsUnblockedPort s p → ⊥) → Shown m s
       → Comes environment defaults Shown m s handles events (SendLoan of) Skipped (table ++ No_entry ∷ [])
   send_waiting of service p n at waits shown = skip_comes (SendLoan of) (at_none _ _ _ (unsendable s handles events table w of service p n at waits) refl) shown
 
@@ -177,7 +177,7 @@ module _ {T U : Type 0} (environment : Environment) (defaults : Defaults T U) (S
       }
 
   -- it is sent, and this comes of it
-  pub send_comes : (of service p n : ℕ) → slice_get table of ≡ Some (Written_entry service p n) → IsUnblocked s p
+  pub send_comes : (of service p n : ℕ) → slice_get table of ≡ Some (Written_entry service p n) → IsUnblockedPort s p
       → (l : Loan T U) → s.loans n ≡ Some l → (s' : State T U) (result : SendResult) → Send environment s n l s' result → WhatComes environment defaults Shown m s handles events table (SendLoan of) of p n l s' result
   send_comes of service p n at free l here s' result sends reply handle event entry is no_port no_loan no_sample its shown new =
       let found = sendable s handles events table w of service p n at free in
@@ -187,7 +187,7 @@ module _ {T U : Type 0} (environment : Environment) (defaults : Defaults T U) (S
       let known : p < s.next_port = ((named.2).2).1 in
       spent_comes (SendLoan of) of service p n at l here s'
       (subst (λ (i : ℕ). Passed i n s s') lender
-      (send_passes environment s n l s' result (subst (λ (i : ℕ). i < s.next_port) (sym lender) known) (subst (IsUnblocked s) (sym lender) free) sends))
+      (send_passes environment s n l s' result (subst (λ (i : ℕ). i < s.next_port) (sym lender) known) (subst (IsUnblockedPort s) (sym lender) free) sends))
       (send_loans environment s n l s' result sends) (send_advances environment s n l s' result sends) reply handle event entry
       (at_some _ _ _ (n, l) (found.1 ∙ ap (λ (l : Loan T U). Some (n, l)) same) (s', result, sends, is)) no_port no_loan no_sample its shown new
 
@@ -206,13 +206,13 @@ module _ {T U : Type 0} (environment : Environment) (defaults : Defaults T U) (S
       shown
 
   -- its publisher waits for a receiver
-  pub connection_waiting : (of channel place service p n : ℕ) → slice_get table of ≡ Some (Written_entry service p n) → (IsUnblocked s p → ⊥) → Shown m s
+  pub connection_waiting : (of channel place service p n : ℕ) → slice_get table of ≡ Some (Written_entry service p n) → (IsUnblockedPort s p → ⊥) → Shown m s
       → Comes environment defaults Shown m s handles events (SendLoanTo of channel place) Skipped (table ++ No_entry ∷ [])
   connection_waiting of channel place service p n at waits shown =
       skip_comes (SendLoanTo of channel place) (at_none _ _ _ (none_with_channel s channel _ (unsendable s handles events table w of service p n at waits)) refl) shown
 
   -- it is sent, and this comes of it
-  pub connection_comes : (of channel place service p n : ℕ) → channel < channel_count s.config → slice_get table of ≡ Some (Written_entry service p n) → IsUnblocked s p
+  pub connection_comes : (of channel place service p n : ℕ) → channel < channel_count s.config → slice_get table of ≡ Some (Written_entry service p n) → IsUnblockedPort s p
       → (l : Loan T U) → s.loans n ≡ Some l → (s' : State T U) (result : SendResult) → SendToConnection environment s n l channel place s' result
       → WhatComes environment defaults Shown m s handles events table (SendLoanTo of channel place) of p n l s' result
   connection_comes of channel place service p n there at free l here s' result sends reply handle event entry is no_port no_loan no_sample its shown new =
@@ -223,7 +223,7 @@ module _ {T U : Type 0} (environment : Environment) (defaults : Defaults T U) (S
       let known : p < s.next_port = ((named.2).2).1 in
       spent_comes (SendLoanTo of channel place) of service p n at l here s'
       (subst (λ (i : ℕ). Passed i n s s') lender
-      (connection_passes environment s n l channel place s' result (subst (λ (i : ℕ). i < s.next_port) (sym lender) known) (subst (IsUnblocked s) (sym lender) free) sends))
+      (connection_passes environment s n l channel place s' result (subst (λ (i : ℕ). i < s.next_port) (sym lender) known) (subst (IsUnblockedPort s) (sym lender) free) sends))
       (send_to_connection_loans environment s n l channel place s' result sends) (send_to_connection_advances environment s n l channel place s' result sends)
       reply handle event entry
       (at_some _ _ _ (n, l) (with_channel s channel _ there ∙ found.1 ∙ ap (λ (l : Loan T U). Some (n, l)) same) (s', result, sends, is)) no_port no_loan no_sample its shown new

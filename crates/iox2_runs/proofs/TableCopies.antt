@@ -28,7 +28,7 @@ use Rattle.iox2_commands.specs.Step.{if_single_units, if_fixed_size, unblocked_a
 use Rattle.iox2_commands.specs.declared.command.Command.TheVariants.{Loan as LoanDefault, SendCopy}
 use Rattle.iox2_commands.specs.declared.reply.Reply.{Reply}
 use Rattle.iox2_commands.specs.declared.reply.Reply.TheVariants.{Skipped, Loaned, LoanRefused, SendRefused}
-use Rattle.iox2_runs.specs.Tables.{port_of, TableEntry, No_entry, Publisher_entry, Written_entry, IsUnblocked, IsEntryOf, IsTable}
+use Rattle.iox2_runs.specs.Tables.{port_of, TableEntry, No_entry, Publisher_entry, Written_entry, IsUnblockedPort, IsEntryOf, IsTable}
 use Rattle.iox2_runs.specs.RunSteps.{Comes}
 use Rattle.iox2_runs.proofs.FixedSends.{unboxed_still}
 use Rattle.iox2_runs.proofs.TableCalls.{quiet_comes, skip_comes, at_none, at_some}
@@ -111,10 +111,10 @@ module _ {T U : Type 0} (environment : Environment) (defaults : Defaults T U) (S
   default_skipped of absent shown = skip_comes environment defaults Shown m s handles events table w default_value default_header is_default_value is_default_header (LoanDefault of) (at_none _ _ _ (nothing_named of absent) refl) shown
 
   -- the publisher waits for a receiver
-  waiting_named : (of service p : ℕ) → slice_get table of ≡ Some (Publisher_entry service p) → (IsUnblocked s p → ⊥) → if_single_units s (if_fixed_size s (unblocked_at s handles of)) ≡ None
+  waiting_named : (of service p : ℕ) → slice_get table of ≡ Some (Publisher_entry service p) → (IsUnblockedPort s p → ⊥) → if_single_units s (if_fixed_size s (unblocked_at s handles of)) ≡ None
   waiting_named of service p at waits = single_nothing s (unblocked_at s handles of) (waiting_publisher s handles events table w of service p at waits)
 
-  pub default_waiting : (of service p : ℕ) → slice_get table of ≡ Some (Publisher_entry service p) → (IsUnblocked s p → ⊥) → Shown m s
+  pub default_waiting : (of service p : ℕ) → slice_get table of ≡ Some (Publisher_entry service p) → (IsUnblockedPort s p → ⊥) → Shown m s
       → Comes environment defaults Shown m s handles events (LoanDefault of) Skipped (table ++ No_entry ∷ [])
   default_waiting of service p at waits shown =
       skip_comes environment defaults Shown m s handles events table w default_value default_header is_default_value is_default_header (LoanDefault of)
@@ -123,7 +123,7 @@ module _ {T U : Type 0} (environment : Environment) (defaults : Defaults T U) (S
   pub default_elsewhere : (of : ℕ) → is_single_valued s.config ≡ false → Shown m s → Comes environment defaults Shown m s handles events (LoanDefault of) Skipped (table ++ No_entry ∷ [])
   default_elsewhere of other shown = skip_comes environment defaults Shown m s handles events table w default_value default_header is_default_value is_default_header (LoanDefault of) (at_none _ _ _ (elsewhere of other) refl) shown
 
-  pub default_comes : (of service p : ℕ) → slice_get table of ≡ Some (Publisher_entry service p) → IsUnblocked s p → is_single_valued s.config ≡ true
+  pub default_comes : (of service p : ℕ) → slice_get table of ≡ Some (Publisher_entry service p) → IsUnblockedPort s p → is_single_valued s.config ≡ true
       → (value : T) → defaults.IsDefaultValue value → (header : U) → defaults.IsDefaultHeader header
       → (s' : State T U) → GrantWrittenLoan environment value header false 1 s p s' None → Shown m s'
       → (new_service : ℕ) → new_service ≡ (s'.config).service_id
@@ -159,7 +159,7 @@ module _ {T U : Type 0} (environment : Environment) (defaults : Defaults T U) (S
             (next_loan s s' (omega (arith, rises))) once;
       }
 
-  pub default_refused_comes : (of service p : ℕ) → slice_get table of ≡ Some (Publisher_entry service p) → IsUnblocked s p → is_single_valued s.config ≡ true
+  pub default_refused_comes : (of service p : ℕ) → slice_get table of ≡ Some (Publisher_entry service p) → IsUnblockedPort s p → is_single_valued s.config ≡ true
       → (s' : State T U) (e : LoanError) → GrantWrittenLoan environment default_value default_header false 1 s p s' (Some e) → Shown m s'
       → Comes environment defaults Shown m s handles events (LoanDefault of) (LoanRefused e) (table ++ No_entry ∷ [])
   default_refused_comes of service p at free single s' e h shown =
@@ -179,14 +179,14 @@ module _ {T U : Type 0} (environment : Environment) (defaults : Defaults T U) (S
   copy_elsewhere of value other shown = skip_comes environment defaults Shown m s handles events table w default_value default_header is_default_value is_default_header (SendCopy of value) (at_none _ _ _ (elsewhere of other) refl) shown
 
   -- it waits for a receiver
-  pub copy_waiting : (of service p : ℕ) (value : T) → slice_get table of ≡ Some (Publisher_entry service p) → (IsUnblocked s p → ⊥) → Shown m s
+  pub copy_waiting : (of service p : ℕ) (value : T) → slice_get table of ≡ Some (Publisher_entry service p) → (IsUnblockedPort s p → ⊥) → Shown m s
       → Comes environment defaults Shown m s handles events (SendCopy of value) Skipped (table ++ No_entry ∷ [])
   copy_waiting of service p value at waits shown =
       skip_comes environment defaults Shown m s handles events table w default_value default_header is_default_value is_default_header (SendCopy of value)
       (at_none _ _ _ (waiting_named of service p at waits) refl) shown
 
   -- it is lent and sent, and this comes of it
-  pub copy_comes : (of service p : ℕ) (value : T) → slice_get table of ≡ Some (Publisher_entry service p) → IsUnblocked s p → is_single_valued s.config ≡ true
+  pub copy_comes : (of service p : ℕ) (value : T) → slice_get table of ≡ Some (Publisher_entry service p) → IsUnblockedPort s p → is_single_valued s.config ≡ true
       → (header : U) → defaults.IsDefaultHeader header → (mid : State T U) → GrantWrittenLoan environment value header false 1 s p mid None
       → (l : Loan T U) → mid.loans s.next_message ≡ Some l → (s' : State T U) (result : SendResult) → Send environment mid s.next_message l s' result
       → (reply : Reply T U) (handle : Handle) (event : Event T U) (entry : TableEntry)
@@ -202,9 +202,9 @@ module _ {T U : Type 0} (environment : Environment) (defaults : Defaults T U) (S
       let lender : l.publisher ≡ p = ap (λ (k : Loan T U). k.publisher) (same_Some l (copied environment s p value header mid h) (sym there ∙ copied-there environment s p value header mid h)) ∙ copied-publisher environment s p value header mid h in
       let below = known of service p at in
       let rises = copied-rises environment s p value header mid h in
-      let still_free : IsUnblocked mid p = λ x at_x. let was = come.publishers p x below at_x in was.2 (free was.0 was.1) in
+      let still_free : IsUnblockedPort mid p = λ x at_x. let was = come.publishers p x below at_x in was.2 (free was.0 was.1) in
       let passed : Passed p n mid s' = subst (λ (i : ℕ). Passed i n mid s') lender
-      (send_passes environment mid n l s' result (subst (λ (i : ℕ). i < mid.next_port) (sym lender) (let up = come.next_port in omega (arith, below, up))) (subst (IsUnblocked mid) (sym lender) still_free) sends) in
+      (send_passes environment mid n l s' result (subst (λ (i : ℕ). i < mid.next_port) (sym lender) (let up = come.next_port in omega (arith, below, up))) (subst (IsUnblockedPort mid) (sym lender) still_free) sends) in
       let advances = send_advances environment mid n l s' result sends in
       let first : PortsKeep No_handle (Blocked_handle p n) s mid = ports-keep No_handle (Blocked_handle p n) s mid stay.remain come (copied-waits environment s p value header mid h) in
       let keep : PortsKeep No_handle (Blocked_handle p n) s s' = keep-trans No_handle (Blocked_handle p n) s mid s' first (passed_keeps No_handle p n mid s' passed) in
@@ -240,7 +240,7 @@ module _ {T U : Type 0} (environment : Environment) (defaults : Defaults T U) (S
             }) once;
       }
 
-  pub copy_refused_comes : (of service p : ℕ) (value : T) → slice_get table of ≡ Some (Publisher_entry service p) → IsUnblocked s p → is_single_valued s.config ≡ true
+  pub copy_refused_comes : (of service p : ℕ) (value : T) → slice_get table of ≡ Some (Publisher_entry service p) → IsUnblockedPort s p → is_single_valued s.config ≡ true
       → (s' : State T U) (e : LoanError) → GrantWrittenLoan environment value default_header false 1 s p s' (Some e) → Shown m s'
       → Comes environment defaults Shown m s handles events (SendCopy of value) (SendRefused (NotLoaned e)) (table ++ No_entry ∷ [])
   copy_refused_comes of service p value at free single s' e h shown =

@@ -10,7 +10,7 @@ use Rattle.iox2_machine.specs.machine.State.{State, is_blocked}
 use Rattle.iox2_commands.specs.Outcomes.{Handle, No_handle, Publisher_handle, Subscriber_handle, Loan_handle, Blocked_handle, Sample_handle, Event}
 use Rattle.iox2_machine.specs.machine.SingleCalls.{HoldsBlocked}
 use Rattle.iox2_commands.specs.Step.{publisher_at, unblocked_at, subscriber_at, loan_at, unwritten_at, written_at, sendable_at, blocked_at, sample_at}
-use Rattle.iox2_runs.specs.Tables.{TableEntry, No_entry, Publisher_entry, Subscriber_entry, Unwritten_entry, Written_entry, Blocked_entry, Sample_entry, IsUnblocked, HasLoan, HasNoBox, IsEntryOf, IsTable}
+use Rattle.iox2_runs.specs.Tables.{TableEntry, No_entry, Publisher_entry, Subscriber_entry, Unwritten_entry, Written_entry, Blocked_entry, Sample_entry, IsUnblockedPort, HasLoan, HasNoBox, IsEntryOf, IsTable}
 
 -- What kind of thing the entry names.
 abbrev pub is_publisher_entry : TableEntry → Bool
@@ -301,14 +301,14 @@ module _ {T U : Type 0} (s : State T U) where
         )
 
     -- it is named where no send of it is blocked
-    pub has_free_publisher : (service p : ℕ) → slice_get table of ≡ Some (Publisher_entry service p) → IsUnblocked s p
+    pub has_free_publisher : (service p : ℕ) → slice_get table of ≡ Some (Publisher_entry service p) → IsUnblockedPort s p
         → (x : Publisher) × (unblocked_at s handles of ≡ Some (p, x)) × (s.publishers p ≡ Some x)
     has_free_publisher service p at free =
         let found = has_publisher service p at in
         (found.0, ap if_free found.1 ∙ ap (λ (b : Option BlockedSend). cond (is_none b) (Some (p, found.0)) None) (free found.0 found.2), found.2)
 
     -- and not where one is
-    pub waiting_publisher : (service p : ℕ) → slice_get table of ≡ Some (Publisher_entry service p) → (IsUnblocked s p → ⊥) → unblocked_at s handles of ≡ None
+    pub waiting_publisher : (service p : ℕ) → slice_get table of ≡ Some (Publisher_entry service p) → (IsUnblockedPort s p → ⊥) → unblocked_at s handles of ≡ None
     waiting_publisher service p at waits =
         let found = has_publisher service p at in
         ap if_free found.1 ∙ by found.0 found.2 (found.0).blocked refl
@@ -333,7 +333,7 @@ module _ {T U : Type 0} (s : State T U) where
         )
 
     -- a publisher that isn't there waits for nobody
-    not_blocked : (p : ℕ) → IsUnblocked s p → is_blocked s p ≡ false
+    not_blocked : (p : ℕ) → IsUnblockedPort s p → is_blocked s p ≡ false
     not_blocked p unblocked = by (s.publishers p) refl where
       by : (o : Option Publisher) → s.publishers p ≡ o → option_map_or (λ (x : Publisher). is_some x.blocked) o false ≡ false
       by None e = refl
@@ -360,7 +360,7 @@ module _ {T U : Type 0} (s : State T U) where
         ((k.0).0, ap IfWritten there ∙ ap (λ (b : Bool). cond {A = Option (ℕ × Loan T U)} b (Some (n, (k.0).0)) None) (k.0).3, there, (k.0).1, (k.0).2)
 
     -- it can be sent where its publisher waits for no receiver
-    pub sendable : (service p n : ℕ) → slice_get table of ≡ Some (Written_entry service p n) → IsUnblocked s p
+    pub sendable : (service p n : ℕ) → slice_get table of ≡ Some (Written_entry service p n) → IsUnblockedPort s p
         → (l : Loan T U) × (sendable_at s handles of ≡ Some (n, l)) × (s.loans n ≡ Some l) × (l.publisher ≡ p)
     sendable service p n at free =
         let found = has_written service p n at in
@@ -368,12 +368,12 @@ module _ {T U : Type 0} (s : State T U) where
         (found.0, ap if_unblocked found.1 ∙ ap (λ (b : Bool). cond {A = Option (ℕ × Loan T U)} b None (Some (n, found.0))) unblocked, found.3, found.4)
 
     -- and not where it waits
-    pub unsendable : (service p n : ℕ) → slice_get table of ≡ Some (Written_entry service p n) → (IsUnblocked s p → ⊥) → sendable_at s handles of ≡ None
+    pub unsendable : (service p n : ℕ) → slice_get table of ≡ Some (Written_entry service p n) → (IsUnblockedPort s p → ⊥) → sendable_at s handles of ≡ None
     unsendable service p n at waits =
         let found = has_written service p n at in
         ap if_unblocked found.1 ∙ ap (λ (b : Bool). cond {A = Option (ℕ × Loan T U)} b None (Some (n, found.0))) (ap (is_blocked s) found.4 ∙ blocked)
       where
-        free : (o : Option Publisher) → s.publishers p ≡ o → option_map_or (λ (x : Publisher). is_some x.blocked) o false ≡ false → IsUnblocked s p
+        free : (o : Option Publisher) → s.publishers p ≡ o → option_map_or (λ (x : Publisher). is_some x.blocked) o false ≡ false → IsUnblockedPort s p
         free None none e = λ x there. absurd (none-some x (sym none ∙ there))
         free (Some y) stands e = λ x there. ap (λ (v : Publisher). v.blocked) (same_Some x y (sym there ∙ stands)) ∙ none y.blocked e where
           none : (o : Option BlockedSend) → is_some o ≡ false → o ≡ None

@@ -22,7 +22,7 @@ use Rattle.iox2_laws.proofs.LoanKeeping.{create_publisher_loans, create_subscrib
 use Rattle.iox2_commands.specs.Outcomes.{Handle, Publisher_handle, Subscriber_handle, Loan_handle, Blocked_handle, Sample_handle, Event, No_event, outcome, replied}
 use Rattle.iox2_commands.specs.Runs.{Defaults}
 use Rattle.iox2_commands.specs.Step.{Step, publisher_settings, unblocked_at}
-use Rattle.iox2_runs.specs.Tables.{port_of, TableEntry, No_entry, Publisher_entry, Subscriber_entry, Unwritten_entry, IsUnblocked, HasNoBox, IsEntryOf, IsTable}
+use Rattle.iox2_runs.specs.Tables.{port_of, TableEntry, No_entry, Publisher_entry, Subscriber_entry, Unwritten_entry, IsUnblockedPort, HasNoBox, IsEntryOf, IsTable}
 use Rattle.iox2_runs.specs.RunSteps.{Comes}
 use Rattle.iox2_runs.specs.Services.{has_slices}
 use Rattle.iox2_commands.specs.declared.command.Command.{Command}
@@ -233,7 +233,7 @@ module _ {T U : Type 0} (environment : Environment) (defaults : Defaults T U) (S
       (at_none _ _ _ (single_nothing s (unblocked_at s handles of) (lacks_publisher s handles events table w of absent)) refl) shown
 
   -- the publisher waits for a receiver
-  pub loan_waiting : (of service p : ℕ) → slice_get table of ≡ Some (Publisher_entry service p) → (IsUnblocked s p → ⊥) → Shown m s
+  pub loan_waiting : (of service p : ℕ) → slice_get table of ≡ Some (Publisher_entry service p) → (IsUnblockedPort s p → ⊥) → Shown m s
       → Comes environment defaults Shown m s handles events (LoanUninit of) Skipped (table ++ No_entry ∷ [])
   loan_waiting of service p at waits shown =
       skip_comes environment defaults Shown m s handles events table w default_value default_header is_default_value is_default_header (LoanUninit of)
@@ -244,7 +244,7 @@ module _ {T U : Type 0} (environment : Environment) (defaults : Defaults T U) (S
       skip_comes environment defaults Shown m s handles events table w default_value default_header is_default_value is_default_header (LoanUninit of)
       (at_none _ _ _ (single_elsewhere s (unblocked_at s handles of) other) refl) shown
 
-  pub loan_comes : (of service p : ℕ) → slice_get table of ≡ Some (Publisher_entry service p) → IsUnblocked s p → is_single_valued s.config ≡ true
+  pub loan_comes : (of service p : ℕ) → slice_get table of ≡ Some (Publisher_entry service p) → IsUnblockedPort s p → is_single_valued s.config ≡ true
       → (header : U) → defaults.IsDefaultHeader header → (s' : State T U) → GrantLoan environment header false 1 s p s' None → Shown m s'
       → (new_service : ℕ) → new_service ≡ (s'.config).service_id
       → Comes environment defaults Shown m s handles events (LoanUninit of) Loaned (table ++ Unwritten_entry new_service p s.next_message ∷ [])
@@ -253,7 +253,7 @@ module _ {T U : Type 0} (environment : Environment) (defaults : Defaults T U) (S
       granted_comes (LoanUninit of) of service p at header is_default false 1 s' h
       (at_some _ _ _ (p, found.0) (single_named s (unblocked_at s handles of) single ∙ found.1) (s', None, h, refl)) shown new_service ours
 
-  pub loan_refused_comes : (of service p : ℕ) → slice_get table of ≡ Some (Publisher_entry service p) → IsUnblocked s p → is_single_valued s.config ≡ true
+  pub loan_refused_comes : (of service p : ℕ) → slice_get table of ≡ Some (Publisher_entry service p) → IsUnblockedPort s p → is_single_valued s.config ≡ true
       → (header : U) → defaults.IsDefaultHeader header → (s' : State T U) (e : LoanError) → GrantLoan environment header false 1 s p s' (Some e) → Shown m s'
       → Comes environment defaults Shown m s handles events (LoanUninit of) (LoanRefused e) (table ++ No_entry ∷ [])
   loan_refused_comes of service p at free single header is_default s' e h shown =
@@ -268,7 +268,7 @@ module _ {T U : Type 0} (environment : Environment) (defaults : Defaults T U) (S
       skip_comes environment defaults Shown m s handles events table w default_value default_header is_default_value is_default_header (LoanSlice of len)
       (at_none _ _ _ (slice_nothing s (unblocked_at s handles of) (lacks_publisher s handles events table w of absent)) refl) shown
 
-  pub slice_waiting : (of len service p : ℕ) → slice_get table of ≡ Some (Publisher_entry service p) → (IsUnblocked s p → ⊥) → Shown m s
+  pub slice_waiting : (of len service p : ℕ) → slice_get table of ≡ Some (Publisher_entry service p) → (IsUnblockedPort s p → ⊥) → Shown m s
       → Comes environment defaults Shown m s handles events (LoanSlice of len) Skipped (table ++ No_entry ∷ [])
   slice_waiting of len service p at waits shown =
       skip_comes environment defaults Shown m s handles events table w default_value default_header is_default_value is_default_header (LoanSlice of len)
@@ -279,7 +279,7 @@ module _ {T U : Type 0} (environment : Environment) (defaults : Defaults T U) (S
       skip_comes environment defaults Shown m s handles events table w default_value default_header is_default_value is_default_header (LoanSlice of len)
       (at_none _ _ _ (slice_elsewhere s (unblocked_at s handles of) other) refl) shown
 
-  pub slice_comes : (of len service p : ℕ) → slice_get table of ≡ Some (Publisher_entry service p) → IsUnblocked s p → has_slices s.config ≡ true
+  pub slice_comes : (of len service p : ℕ) → slice_get table of ≡ Some (Publisher_entry service p) → IsUnblockedPort s p → has_slices s.config ≡ true
       → (header : U) → defaults.IsDefaultHeader header → (s' : State T U) → GrantLoan environment header true len s p s' None → Shown m s'
       → (new_service : ℕ) → new_service ≡ (s'.config).service_id
       → Comes environment defaults Shown m s handles events (LoanSlice of len) Loaned (table ++ Unwritten_entry new_service p s.next_message ∷ [])
@@ -288,7 +288,7 @@ module _ {T U : Type 0} (environment : Environment) (defaults : Defaults T U) (S
       granted_comes (LoanSlice of len) of service p at header is_default true len s' h
       (at_some _ _ _ (p, found.0) (slice_named s (unblocked_at s handles of) slices ∙ found.1) (s', None, h, refl)) shown new_service ours
 
-  pub slice_refused_comes : (of len service p : ℕ) → slice_get table of ≡ Some (Publisher_entry service p) → IsUnblocked s p → has_slices s.config ≡ true
+  pub slice_refused_comes : (of len service p : ℕ) → slice_get table of ≡ Some (Publisher_entry service p) → IsUnblockedPort s p → has_slices s.config ≡ true
       → (header : U) → defaults.IsDefaultHeader header → (s' : State T U) (e : LoanError) → GrantLoan environment header true len s p s' (Some e) → Shown m s'
       → Comes environment defaults Shown m s handles events (LoanSlice of len) (LoanRefused e) (table ++ No_entry ∷ [])
   slice_refused_comes of len service p at free slices header is_default s' e h shown =

@@ -12,7 +12,7 @@ use Rattle.iox2_laws.proofs.SendsRemain.{PortsRemain, send_remains, retry_remain
 use Rattle.iox2_laws.proofs.UpToDate.{send_subscribers, retry_subscribers, give_up_subscribers}
 use Rattle.iox2_laws.proofs.Waits.{Waits, send_waits, retry_waits, give_up_waits}
 use Rattle.iox2_commands.specs.Outcomes.{Handle, Blocked_handle}
-use Rattle.iox2_runs.specs.Tables.{IsUnblocked}
+use Rattle.iox2_runs.specs.Tables.{IsUnblockedPort}
 use Rattle.iox2_runs.proofs.TableSteps.{PortsKeep, waits_still}
 use Rattle.iox2_laws.proofs.ConnectionSendsLeave.{send_to_connection_remains, send_to_connection_stays, send_to_connection_subscribers, send_to_connection_waits, send_to_connection_waits_with}
 
@@ -24,7 +24,7 @@ one_blocked s p n k a b =
     sym b.4 ∙ ap (λ (v : BlockedSend). v.message) (sym one) ∙ a.4
 
 -- and it waits with none where it is free
-pub free_waits : {T U : Type 0} (s : State T U) (p k : ℕ) → IsUnblocked s p → HoldsBlocked s p k → ⊥
+pub free_waits : {T U : Type 0} (s : State T U) (p k : ℕ) → IsUnblockedPort s p → HoldsBlocked s p k → ⊥
 free_waits s p k free has = none-some has.1 (sym (free has.0 has.2) ∙ has.3)
 
 -- The ports remain, and only the publisher p may wait otherwise than before, with no other message than n before and after.
@@ -56,7 +56,7 @@ module _ {T U : Type 0} (spent : Handle) (p n : ℕ) (s s' : State T U) (passed 
 
 module _ {T U : Type 0} (environment : Environment) (s : State T U) where
   -- a send of a publisher that waits for nobody
-  pub send_passes : (n : ℕ) (l : Loan T U) (s' : State T U) (result : SendResult) → l.publisher < s.next_port → IsUnblocked s l.publisher → Send environment s n l s' result
+  pub send_passes : (n : ℕ) (l : Loan T U) (s' : State T U) (result : SendResult) → l.publisher < s.next_port → IsUnblockedPort s l.publisher → Send environment s n l s' result
       → Passed l.publisher n s s'
   send_passes n l s' result low free h = record {
     remain = send_remains environment s n l s' result h;
@@ -76,7 +76,7 @@ module _ {T U : Type 0} (environment : Environment) (s : State T U) where
     by (Send_error e) h k has = ended (Send_error e) h (λ is. let clash : Send_error e ≡ Blocked_send = is in absurd cc) k has
 
   -- a send to one connection
-  pub connection_passes : (n : ℕ) (l : Loan T U) (channel place : ℕ) (s' : State T U) (result : SendResult) → l.publisher < s.next_port → IsUnblocked s l.publisher
+  pub connection_passes : (n : ℕ) (l : Loan T U) (channel place : ℕ) (s' : State T U) (result : SendResult) → l.publisher < s.next_port → IsUnblockedPort s l.publisher
       → SendToConnection environment s n l channel place s' result → Passed l.publisher n s s'
   connection_passes n l channel place s' result low free h = record {
     remain = send_to_connection_remains environment s n l channel place s' result h;

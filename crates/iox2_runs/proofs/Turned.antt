@@ -14,10 +14,10 @@ use Rattle.iox2_commands.specs.declared.reply.Reply.{Reply}
 use Rattle.iox2_commands.specs.declared.reply.Reply.TheVariants.{Skipped}
 use Rattle.iox2_runs.specs.Carries.{Carries, IsLiveTable, entry_for}
 use Rattle.iox2_runs.specs.CarriesOut.{CarriesOut}
-use Rattle.iox2_runs.specs.Leaves.{Leaves, item_of}
+use Rattle.iox2_runs.specs.Leaves.{LeavesTable, item_of}
 use Rattle.iox2_runs.specs.Placed.{IsPlacedMade}
-use Rattle.iox2_runs.specs.Tables.{IsUnblocked}
-use Rattle.iox2_runs.specs.Turns.{IsHeld, IsUnready, Turns, Makes, IsTaken, IsPutBack}
+use Rattle.iox2_runs.specs.Tables.{IsUnblockedPort}
+use Rattle.iox2_runs.specs.Turns.{IsLiveEntry, IsUnready, Turns, Makes, IsTakenFromTable, IsPutBack}
 use Rattle.iox2_runs.specs.declared.runs.made.Made.{Made}
 use Rattle.iox2_runs.specs.declared.runs.made.Made.TheVariants.{Nothing, Publisher as MadePublisher, Subscriber as MadeSubscriber, Unwritten, Written, Blocked, Sample as MadeSample}
 use Rattle.iox2_runs.proofs.LeavingSteps.{leaves-all, leaves-making, leaves-spending}
@@ -33,11 +33,11 @@ module _ {T U F G : Type 0} (environment : Environment) (defaults : Defaults T U
   -- what is held is left, and the command may make something
   pub keeps : (made : Made)
       → ((table : List Made) (of : ℕ) → slice_index_or table of Nothing ≡ held → Carries environment defaults old new table (command of) reply table made)
-      → ((table : List Made) (of : ℕ) → slice_index_or table of Nothing ≡ held → Leaves old new table table made)
+      → ((table : List Made) (of : ℕ) → slice_index_or table of Nothing ≡ held → LeavesTable old new table table made)
       → Turns environment defaults old new held command (reply, held, made)
   keeps made carries leaves = record {
     carries = λ table of at. subst (λ (t : List Made). Carries environment defaults old new table (command of) reply t made) (sym (stands-there table of held at)) (carries table of at);
-    leaves = λ table of at. subst (λ (t : List Made). Leaves old new table t made) (sym (stands-there table of held at)) (leaves table of at);
+    leaves = λ table of at. subst (λ (t : List Made). LeavesTable old new table t made) (sym (stands-there table of held at)) (leaves table of at);
   }
 
   -- it spends nothing
@@ -70,7 +70,7 @@ module _ {T U F G : Type 0} (environment : Environment) (defaults : Defaults T U
   -- so a command on a publisher is, where there is none, and where it waits for a receiver
   pub unready : IsUnready domain held
       → ((table : List Made) (of : ℕ) → is_publisher_entry (entry_for (slice_index_or table of Nothing)) ≡ false → slice_index_or table of Nothing ≡ held → Skips table of)
-      → ((table : List Made) (of : ℕ) (h : PublisherHandle) → slice_index_or table of Nothing ≡ MadePublisher h → ((m : Messages T U) (s : State T U) → Shows domain m s → IsUnblocked s h.id → ⊥) → Skips table of)
+      → ((table : List Made) (of : ℕ) (h : PublisherHandle) → slice_index_or table of Nothing ≡ MadePublisher h → ((m : Messages T U) (s : State T U) → Shows domain m s → IsUnblockedPort s h.id → ⊥) → Skips table of)
       → Turns environment defaults domain domain held command (Skipped, held, Nothing)
   unready waits passed held_up = looks Skipped (λ table of at. by table of at held refl)
     where
@@ -88,9 +88,9 @@ pub carried-here : {T U F G A : Type 0} {environment : Environment} {defaults : 
     (table : Vec Made A) → Makes environment defaults old new command reply made → CarriesOut environment defaults old new table table command reply made
 carried-here table makes = record { carries = makes.carries table.items; leaves = makes.leaves table.items; room = record { len = refl; capacity = refl } }
 
-module _ {A : Type 0} {table taken : Vec Made A} {of : ℕ} {held : Made} (is_taken : IsTaken table taken of held) where
+module _ {A : Type 0} {table taken : Vec Made A} {of : ℕ} {held : Made} (is_taken : IsTakenFromTable table taken of held) where
   -- what was taken is held
-  pub taken-held : {T U F G : Type 0} (domain : Domain T U F G) → IsLiveTable domain table.items → IsHeld domain held
+  pub taken-held : {T U F G : Type 0} (domain : Domain T U F G) → IsLiveTable domain table.items → IsLiveEntry domain held
   taken-held domain live = record { table = table.items; live = live; of = of; stands = sym is_taken.stood }
 
   -- the command is carried out

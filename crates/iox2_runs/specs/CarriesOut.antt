@@ -6,7 +6,7 @@ use Rattle.iox2_commands.specs.declared.command.Command.{Command}
 use Rattle.iox2_commands.specs.declared.reply.Reply.{Reply}
 use Rattle.iox2_domain.specs.Kept.{Kept as Domain}
 use Rattle.iox2_runs.specs.Carries.{Carries}
-use Rattle.iox2_runs.specs.Leaves.{Leaves}
+use Rattle.iox2_runs.specs.Leaves.{LeavesTable}
 use Rattle.iox2_runs.specs.Rooms.{SameRoom}
 use Rattle.iox2_runs.specs.declared.runs.made.Made.{Made}
 
@@ -14,5 +14,5 @@ use Rattle.iox2_runs.specs.declared.runs.made.Made.{Made}
 pub record CarriesOut {T U F G A : Type 0} (environment : Environment) (defaults : Defaults T U) (old new : Domain T U F G) (table table' : Vec Made A)
     (command : Command T U) (reply : Reply T U) (made : Made) : Type 0 where
   pub carries : Carries environment defaults old new table.items command reply table'.items made
-  pub leaves : Leaves old new table.items table'.items made
+  pub leaves : LeavesTable old new table.items table'.items made
   pub room : SameRoom table table'

@@ -37,8 +37,8 @@ module _ {T U : Type 0} (s : State T U) where
   IsSpent (Sample_handle p q n) = is_borrowed n (s.mailboxes p q) ≡ false
 
   -- No send of the publisher is blocked, if it is there.
-  abbrev pub IsUnblocked : (p : ℕ) → Type 0
-  IsUnblocked p = (x : Publisher) → s.publishers p ≡ Some x → x.blocked ≡ None
+  abbrev pub IsUnblockedPort : (p : ℕ) → Type 0
+  IsUnblockedPort p = (x : Publisher) → s.publishers p ≡ Some x → x.blocked ≡ None
 
   -- No box answers for the publisher, if it is there.
   abbrev pub HasNoBox : (p : ℕ) → Type 0

@@ -64,7 +64,7 @@ module _ {T U : Type 0} where
     pub departed : HasNoPublisher f.publishers link
 
   -- What waited in the connection at the key is lost.
-  pub record LosesWaiting (f : Fields T U) (key : ℕ) (c : Link) (f' : Fields T U) : Type 0 where
+  pub record ConnectionLosesWaiting (f : Fields T U) (key : ℕ) (c : Link) (f' : Fields T U) : Type 0 where
     pub passes : Passes f f' (lost_from (state_of (kept_of f)) c.home.publisher c.home.subscriber)
     pub publishers : f'.publishers ≡ f.publishers
     pub subscribers : f'.subscribers ≡ f.subscribers
@@ -89,7 +89,7 @@ module _ {T U : Type 0} where
   pub record LosesLeft (f : Fields T U) (place key : ℕ) (f' : Fields T U) : Type 0 where
     pub left : IsLeftAt f place key
     pub between : Fields T U
-    pub loses : LosesWaiting f key left.link between
+    pub loses : ConnectionLosesWaiting f key left.link between
     pub forgets : ForgetsIfEmpty between place key left.subscriber (without_waiting left.link) f'
 
   -- The same, where there is such a key; or there is none, or the publisher is there, and nothing changed.

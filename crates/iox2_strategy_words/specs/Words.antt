@@ -11,9 +11,9 @@ word_for strategy.RetryUntilDelivered = word.RetryUntilDelivered
 word_for strategy.DiscardData = word.DiscardData
 
 -- The strategy with a word.
-abbrev pub strategy_of : StrategyWord → BackpressureStrategy
-strategy_of word.RetryUntilDelivered = strategy.RetryUntilDelivered
-strategy_of word.DiscardData = strategy.DiscardData
+abbrev pub strategy_with_word : StrategyWord → BackpressureStrategy
+strategy_with_word word.RetryUntilDelivered = strategy.RetryUntilDelivered
+strategy_with_word word.DiscardData = strategy.DiscardData
 
 -- What is written for a word.
 abbrev pub strategy_name : StrategyWord → List ℕ

@@ -6,7 +6,7 @@
 mod tests;
 
 ghost use Rattle.std.specs.Prelude.{◌≡◌};
-ghost use Rattle.iox2_strategy_words.specs.Words.{strategy_name, strategy_of, word_for};
+ghost use Rattle.iox2_strategy_words.specs.Words.{strategy_name, strategy_with_word, word_for};
 
 use iox2_machine::BackpressureStrategy;
 use serde::{Described, Deserialize, Serialize, Serializer};
@@ -36,7 +36,7 @@ impl StrategyWord {
 
     /// The strategy with this word.
     pub fn strategy(self) -> BackpressureStrategy
-        ensures { result ≡ strategy_of self }
+        ensures { result ≡ strategy_with_word self }
     {
         match self {
             StrategyWord::RetryUntilDelivered => BackpressureStrategy::RetryUntilDelivered,

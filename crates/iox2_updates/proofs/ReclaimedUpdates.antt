@@ -7,7 +7,7 @@ use Rattle.iox2_machine.specs.machine.PublisherUpdate.{UpdatePublisher}
 use Rattle.iox2_machine.specs.machine.Records.{Environment}
 use Rattle.iox2_machine.specs.machine.State.{State}
 use Rattle.iox2_machine.specs.declared.errors.ConnectionFailure.{ConnectionFailure}
-use Rattle.iox2_domain.specs.Connects.{UpdatesPublisher}
+use Rattle.iox2_domain.specs.Connects.{UpdatesKeptPublisher}
 use Rattle.iox2_domain.specs.Fields.{Fields, kept_of}
 use Rattle.iox2_domain.specs.Kept.{state_of}
 use Rattle.iox2_domain.specs.Reaches.{Reaches}
@@ -28,7 +28,7 @@ module _ {T U : Type 0} (environment : Environment) (f mid : Fields T U) (reache
   }
 
   -- its update from there is one from the start
-  pub updates-from : (new : Fields T U) (failure : Option ConnectionFailure) → UpdatesPublisher environment mid i due.publisher new failure → UpdatesPublisher environment f i due.publisher new failure
+  pub updates-from : (new : Fields T U) (failure : Option ConnectionFailure) → UpdatesKeptPublisher environment mid i due.publisher new failure → UpdatesKeptPublisher environment f i due.publisher new failure
   updates-from new failure u = record {
     after = u.after;
     updates = subst (λ (s : State T U). UpdatePublisher environment s (due.publisher).id u.after failure) reaches.state u.updates;

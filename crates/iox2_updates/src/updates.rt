@@ -4,7 +4,7 @@ ghost use Rattle.iox2_domain.specs.Boxes.{answers_of};
 ghost use Rattle.iox2_domain.specs.Ports.{PublisherFields};
 ghost use Rattle.iox2_domain.specs.Invariant.{IsDomain};
 ghost use Rattle.iox2_domain.specs.Updates.{IsUnblockedAt};
-ghost use Rattle.iox2_domain.specs.Connects.{UpdatesPublisher};
+ghost use Rattle.iox2_domain.specs.Connects.{UpdatesKeptPublisher};
 ghost use Rattle.iox2_updates.specs.Ends.{IsSenderDue};
 ghost use Rattle.iox2_updates.specs.Holders.{HasFewHolders};
 
@@ -30,7 +30,7 @@ pub fn update_publisher<T: Drop, U: Default + Drop, F: BackpressureFn, G: Degrad
     requires stands { (x : PublisherFields) × (slice_index_or state.old.publishers place None ≡ Some x) }
     requires unblocked { IsUnblockedAt state.old.publishers place }
     ensures { (x : PublisherFields) → slice_index_or state.old.publishers place None ≡ Some x
-        → UpdatesPublisher (answers_of F.allows G.allows (boxes.now).boxes) state.old place x state.new result }
+        → UpdatesKeptPublisher (answers_of F.allows G.allows (boxes.now).boxes) state.old place x state.new result }
 {
     if is_due_at(&state.publishers, place) {
         connect_publisher(state, boxes, place)
@@ -48,7 +48,7 @@ fn connect_publisher<T: Drop, U: Default + Drop, F: BackpressureFn, G: Degradati
     place: usize,
 ) -> Option<ConnectionFailure>
     requires { IsSenderDue state.old place }
-    ensures { (due : IsSenderDue state.old place) → UpdatesPublisher (answers_of F.allows G.allows (boxes.now).boxes) state.old place due.publisher state.new result }
+    ensures { (due : IsSenderDue state.old place) → UpdatesKeptPublisher (answers_of F.allows G.allows (boxes.now).boxes) state.old place due.publisher state.new result }
 {
     reclaim(state, place);
     walk_places(state, boxes, place)
@@ -63,7 +63,7 @@ fn walk_places<T: Drop, U: Default + Drop, F: BackpressureFn, G: DegradationFn>(
 ) -> Option<ConnectionFailure>
     requires due { IsSenderDue state.old place }
     requires few { (due : IsSenderDue state.old place) → HasFewHolders (state.old).books due.publisher.book (2 ^ 62) }
-    ensures { (due : IsSenderDue state.old place) → UpdatesPublisher (answers_of F.allows G.allows (boxes.now).boxes) state.old place due.publisher state.new result }
+    ensures { (due : IsSenderDue state.old place) → UpdatesKeptPublisher (answers_of F.allows G.allows (boxes.now).boxes) state.old place due.publisher state.new result }
 {
     clear_due(&mut state.publishers, place);
     let mut first = None;

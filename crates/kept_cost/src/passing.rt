@@ -1,7 +1,7 @@
 //! Messages pass from a publisher to a subscriber. Both keep many.
 ghost use Rattle.std.specs.Prelude.{◌≤◌, IfSome};
 ghost use Rattle.iox2_pubsub.specs.Live.{IsLivePublisher, IsLiveSample, IsLiveSubscriber, IsSingleValued, IsUnblocked, IsWritten, Stays, written_key};
-ghost use Rattle.kept_cost.specs.Ports.{HasPorts};
+ghost use Rattle.kept_cost.specs.Ports.{HasTwoPorts};
 
 use crate::kept::Kept;
 use iox2_pubsub::{
@@ -59,7 +59,7 @@ fn pass_all(
     kept: Kept,
     rounds: u64,
 ) -> u64
-    requires ports { HasPorts domain.old publisher.now subscriber.now }
+    requires ports { HasTwoPorts domain.old publisher.now subscriber.now }
     ensures { result ≤ rounds }
 {
     let mut kept = kept;
@@ -87,8 +87,8 @@ fn send_oldest(
     oldest: Option<LoanParts>,
     value: u64,
 )
-    requires ports { HasPorts domain.old publisher.now subscriber.now }
-    ensures { HasPorts domain.new publisher.now subscriber.now }
+    requires ports { HasTwoPorts domain.old publisher.now subscriber.now }
+    ensures { HasTwoPorts domain.new publisher.now subscriber.now }
 {
     let Some(oldest) = oldest else {
         return;
@@ -111,8 +111,8 @@ fn release_oldest(
     subscriber: &Subscriber,
     oldest: Option<SampleParts>,
 ) -> bool
-    requires ports { HasPorts domain.old publisher.now subscriber.now }
-    ensures { HasPorts domain.new publisher.now subscriber.now }
+    requires ports { HasTwoPorts domain.old publisher.now subscriber.now }
+    ensures { HasTwoPorts domain.new publisher.now subscriber.now }
 {
     let Some(oldest) = oldest else {
         return false;
@@ -144,8 +144,8 @@ fn send(
 )
     requires written { IsWritten domain.old message }
     requires unblocked { IsUnblocked domain.old (written_key message) }
-    requires ports { HasPorts domain.old publisher.now subscriber.now }
-    ensures { HasPorts domain.new publisher.now subscriber.now }
+    requires ports { HasTwoPorts domain.old publisher.now subscriber.now }
+    ensures { HasTwoPorts domain.new publisher.now subscriber.now }
 {
     let Ok(outcome) = message.send(domain) else {
         return;
@@ -172,8 +172,8 @@ fn release(
     sample: Sample,
 )
     requires live { IsLiveSample domain.old sample }
-    requires ports { HasPorts domain.old publisher.now subscriber.now }
-    ensures { HasPorts domain.new publisher.now subscriber.now }
+    requires ports { HasTwoPorts domain.old publisher.now subscriber.now }
+    ensures { HasTwoPorts domain.new publisher.now subscriber.now }
 {
     sample.release(domain);
 }

@@ -8,10 +8,10 @@ use Rattle.iox2_pubsub.specs.declared.subscriber.Subscriber.{Subscriber}
 use Rattle.iox2_pubsub.proofs.ForCallers.{all_from_stays, numbers_for_fewer, singles_none}
 use Rattle.message_patterns.specs.Moves.{HasMoved}
 use Rattle.iox2_pubsub.specs.Payloads.{singles}
-use Rattle.message_patterns.specs.Values.{CanSend, TakesMore, Wait}
+use Rattle.message_patterns.specs.Values.{CanSendValues, TakesMore, Wait}
 use Rattle.message_patterns.proofs.Waits.{takes-fewer, takes-stay}
 
-pub can-send-fewer : {T U F G : Type 0} (d : Kept T U F G) (publisher : Publisher) (more fewer : ℕ) → fewer ≤ more → CanSend d publisher more → CanSend d publisher fewer
+pub can-send-fewer : {T U F G : Type 0} (d : Kept T U F G) (publisher : Publisher) (more fewer : ℕ) → fewer ≤ more → CanSendValues d publisher more → CanSendValues d publisher fewer
 can-send-fewer d publisher more fewer less can = record { loans = can.loans; numbers = numbers_for_fewer d more fewer less can.numbers }
 
 module _ {U F G : Type 0} (from to from' to' : Kept ℕ U F G) (origin : ℕ) (receiver : Subscriber) (sender : ℕ) (reader : Subscriber) (values earlier : List ℕ) (count more : ℕ) where

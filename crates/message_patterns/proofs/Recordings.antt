@@ -10,7 +10,7 @@ use Rattle.iox2_pubsub.specs.declared.send_outcome.SendOutcome.TheVariants.{Bloc
 use Rattle.iox2_pubsub.specs.declared.subscriber.Subscriber.{Subscriber}
 use Rattle.iox2_pubsub.proofs.ForCallers.{served_joins}
 use Rattle.iox2_pubsub.proofs.SinceThen.{served_or_pending_since, served_since, served_still}
-use Rattle.message_patterns.specs.Recordings.{IsRecorded, IsUnderway}
+use Rattle.message_patterns.specs.Recordings.{RecorderIsServed, IsUnderway}
 use Rattle.message_patterns.specs.Values.{TakesMore}
 use Rattle.message_patterns.proofs.Waits.{room-for-one, takes-next}
 
@@ -46,7 +46,7 @@ waits-for-it start now blocked recorder number under ahead = ⊎_elim (λ served
 
 module _ {U F G : Type 0} (old new : Kept ℕ U F G) (publisher : ℕ) (recorder : Subscriber) (number : ℕ) where
   -- where there is room a recorded number waits behind the others
-  pub recorded-takes : IsConsistent old → (IsConsistent old → IsConsistent new) → UpToDateStay old new → ((s : Subscriber) → HasItsBuffer old s → HasItsBuffer new s) → (waits : Option BlockedSend) → IsRecorded old new publisher recorder number waits
+  pub recorded-takes : IsConsistent old → (IsConsistent old → IsConsistent new) → UpToDateStay old new → ((s : Subscriber) → HasItsBuffer old s → HasItsBuffer new s) → (waits : Option BlockedSend) → RecorderIsServed old new publisher recorder number waits
       → (earlier : List ℕ) (more : ℕ) → TakesMore old publisher recorder earlier (more + 1) → IfNone waits (TakesMore new publisher recorder (earlier ++ number ∷ []) more)
   recorded-takes consistent still stay buffers None served earlier more takes =
       takes-next old new publisher recorder earlier number more takes

@@ -30,6 +30,6 @@ module _ {U F G : Type 0} (domain : Kept ℕ U F G) (publisher : ℕ) (subscribe
     pub room : length values + more ≤ subscriber.buffer_size
 
 -- The publisher is refused none of so many messages, which it sends one after the other.
-pub record CanSend {T U F G : Type 0} (domain : Kept T U F G) (publisher : Publisher) (n : ℕ) : Type 0 where
+pub record CanSendValues {T U F G : Type 0} (domain : Kept T U F G) (publisher : Publisher) (n : ℕ) : Type 0 where
   pub loans : HasLoansLeft domain publisher 1
   pub numbers : HasNumbersLeft domain n

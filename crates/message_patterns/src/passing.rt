@@ -1,11 +1,11 @@
 //! Values are sent, and all that waits is read.
 ghost use Rattle.std.specs.Prelude.{ℕ, List, [], ◌∷◌, ◌++◌, ◌+◌, ◌<◌, ◌≡◌, length, suc, IfErr, IfOk, IfNone, IfSome, IsOk, OnOk, OnSome};
 ghost use Rattle.iox2_pubsub.specs.Handles.{publisher_id, unwritten_lender};
-ghost use Rattle.iox2_pubsub.specs.Live.{HasLender, IsConsistent, IsLivePublisher, IsLiveSubscriber, IsSingleValued, IsUnblocked, IsUnwrittenLoan, IsUpToDate, KeepsAll, Stays, StaysBut, UpToDateStay, WaitingStays, payloads_from, unwritten_key, unwritten_loan, waiting};
+ghost use Rattle.iox2_pubsub.specs.Live.{HasLender, IsConsistent, IsLivePublisher, IsLiveSubscriber, IsSingleValued, IsUnblocked, NeverWaitsUnwritten, IsUpToDate, KeepsAll, Stays, StaysBut, UpToDateStay, WaitingStays, payloads_from, unwritten_key, unwritten_loan, waiting};
 ghost use Rattle.iox2_pubsub.specs.LoansLeft.{HasOneMoreLeft, LoansLeftStay};
 ghost use Rattle.iox2_pubsub.specs.declared.subscriber.Subscriber.{Subscriber as Port};
 ghost use Rattle.iox2_pubsub.specs.BorrowsLeft.{BorrowsLeftStay, HasBorrowsLeft};
-ghost use Rattle.message_patterns.specs.Values.{CanSend, OnNoValue, TakesMore, Wait};
+ghost use Rattle.message_patterns.specs.Values.{CanSendValues, OnNoValue, TakesMore, Wait};
 
 use crate::Numbers;
 use crate::failure::Failure;
@@ -17,7 +17,7 @@ pub fn send_one(domain: &mut Numbers, publisher: &Publisher, value: u32) -> Resu
     requires publisher { IsLivePublisher domain.old publisher.now }
     ensures sent { (subscriber : Port) (earlier : List ℕ) (more : ℕ) → TakesMore domain.old (publisher_id publisher.now) subscriber earlier (more + 1)
         → OnOk result (TakesMore domain.new (publisher_id publisher.now) subscriber (earlier ++ value ∷ []) more) }
-    ensures granted { (n : ℕ) → CanSend domain.old publisher.now (n + 1) → IsOk result × CanSend domain.new publisher.now n }
+    ensures granted { (n : ℕ) → CanSendValues domain.old publisher.now (n + 1) → IsOk result × CanSendValues domain.new publisher.now n }
     ensures up_to_date { UpToDateStay domain.old domain.new }
     ensures stays { Stays domain.old domain.new }
 {
@@ -33,7 +33,7 @@ pub fn send_one(domain: &mut Numbers, publisher: &Publisher, value: u32) -> Resu
 /// Writes a value into the loan and sends it.
 pub fn send_loan(domain: &mut Numbers, loan: SampleMutUninit, value: u32)
     requires single_valued { IsSingleValued domain.old }
-    requires loan { IsUnwrittenLoan domain.old loan }
+    requires loan { NeverWaitsUnwritten domain.old loan }
     requires unblocked { IsUnblocked domain.old (unwritten_key loan) }
     requires lent { HasLender domain.old (unwritten_key loan) }
     ensures sent { (publisher : ℕ) (reader : Port) (earlier : List ℕ) (more : ℕ) → unwritten_lender loan ≡ publisher → TakesMore domain.old publisher reader earlier (more + 1)
@@ -58,7 +58,7 @@ pub fn send_all(domain: &mut Numbers, publisher: &Publisher, values: &[u32]) -> 
     requires publisher { IsLivePublisher domain.old publisher.now }
     ensures sent { (subscriber : Port) (earlier : List ℕ) (more : ℕ) → TakesMore domain.old (publisher_id publisher.now) subscriber earlier (length values.now + more)
         → OnOk result (TakesMore domain.new (publisher_id publisher.now) subscriber (earlier ++ values.now) more) }
-    ensures granted { (n : ℕ) → CanSend domain.old publisher.now (length values.now + n) → IsOk result × CanSend domain.new publisher.now n }
+    ensures granted { (n : ℕ) → CanSendValues domain.old publisher.now (length values.now + n) → IsOk result × CanSendValues domain.new publisher.now n }
     ensures up_to_date { UpToDateStay domain.old domain.new }
     ensures stays { Stays domain.old domain.new }
 {

@@ -3,8 +3,8 @@
 ghost use Rattle.std.specs.Prelude.{ℕ, List, [], ◌∷◌, ◌++◌, ◌+◌, ◌≡◌, IfNone, IfOk, IfSome, MatchResult};
 ghost use Rattle.iox2_pubsub.specs.BlockedSends.{StaysSince};
 ghost use Rattle.iox2_pubsub.specs.Handles.{blocked_sender, publisher_id};
-ghost use Rattle.iox2_pubsub.specs.Live.{A_blocked_send, IsBlockedSend, IsConnected, IsPending, IsReadyPublisher, IsSingleValued, Stays, StaysBut, UpToDateStay, blocked_key, blocked_send, lender_key, publisher_key};
-ghost use Rattle.message_patterns.specs.Recordings.{CarriesOn, IsRecorded};
+ghost use Rattle.iox2_pubsub.specs.Live.{A_blocked_send, IsBlockedSend, IsConnected, IsPending, IsReadyPublisher, IsSingleValued, Stays, StaysBut, UpToDateStay, blocked_key, blocked_item, lender_key, publisher_key};
+ghost use Rattle.message_patterns.specs.Recordings.{CarriesOn, RecorderIsServed};
 ghost use Rattle.message_patterns.specs.Values.{TakesMore};
 
 use crate::failure::Failure;
@@ -23,7 +23,7 @@ pub fn record<F: BackpressureFn, G: DegradationFn>(
     requires single_valued { IsSingleValued domain.old }
     requires publisher { IsReadyPublisher domain.old publisher.now }
     requires connected { IsConnected domain.old (publisher_id publisher.now) recorder.now }
-    ensures recorded { IfOk result (λ waits. IsRecorded domain.old domain.new (publisher_id publisher.now) recorder.now number waits) }
+    ensures recorded { IfOk result (λ waits. RecorderIsServed domain.old domain.new (publisher_id publisher.now) recorder.now number waits) }
     ensures taken { (earlier : List ℕ) (more : ℕ) → TakesMore domain.old (publisher_id publisher.now) recorder.now earlier (more + 1)
         → IfOk result (λ waits. IfNone waits (TakesMore domain.new (publisher_id publisher.now) recorder.now (earlier ++ number ∷ []) more)) }
     ensures blocked { IfOk result (λ waits. IfSome waits (λ it. IsBlockedSend domain.new it × (lender_key (blocked_key it) ≡ publisher_key publisher.now))) }
@@ -46,11 +46,11 @@ pub fn record_again<F: BackpressureFn, G: DegradationFn>(
 ) -> Result<Option<BlockedSend>, Failure>
     requires live { IsBlockedSend domain.old waiting }
     ensures recorded { (number : ℕ) → IsPending domain.old waiting recorder.now (number ∷ []) → IsConnected domain.old (blocked_sender waiting) recorder.now
-        → IfOk result (λ waits. IsRecorded domain.old domain.new (blocked_sender waiting) recorder.now number waits) }
+        → IfOk result (λ waits. RecorderIsServed domain.old domain.new (blocked_sender waiting) recorder.now number waits) }
     ensures blocked { IfOk result (λ waits. IfSome waits (λ it. IsBlockedSend domain.new it × (blocked_key it ≡ blocked_key waiting))) }
     ensures ends { MatchResult result (λ waits. IfNone waits (StaysSince waiting domain.old domain.new)) (λ _. StaysSince waiting domain.old domain.new) }
     ensures up_to_date { UpToDateStay domain.old domain.new }
-    ensures stays { StaysBut (blocked_send waiting) domain.old domain.new }
+    ensures stays { StaysBut (blocked_item waiting) domain.old domain.new }
 {
     match waiting.retry(domain, Duration::ZERO) {
         Ok(SendOutcome::Delivered(_)) => Ok(None),
@@ -70,7 +70,7 @@ fn pass_others<F: BackpressureFn, G: DegradationFn>(
     ensures blocked { IfOk result (λ waits. IfSome waits (λ it. IsBlockedSend domain.new it × (blocked_key it ≡ blocked_key waiting))) }
     ensures ends { MatchResult result (λ waits. IfNone waits (StaysSince waiting domain.old domain.new)) (λ _. StaysSince waiting domain.old domain.new) }
     ensures up_to_date { UpToDateStay domain.old domain.new }
-    ensures stays { StaysBut (blocked_send waiting) domain.old domain.new }
+    ensures stays { StaysBut (blocked_item waiting) domain.old domain.new }
 {
     let mut blocked = waiting;
     while blocked.subscriber(domain) != recorder.id() {

@@ -5,7 +5,7 @@ ghost use Rattle.iox2_pubsub.specs.Live.{IsLivePublisher, IsLiveSubscriber, IsSi
 ghost use Rattle.iox2_pubsub.specs.declared.subscriber.Subscriber.{Subscriber as Port};
 ghost use Rattle.message_patterns.specs.Moves.{HasMoved};
 ghost use Rattle.iox2_pubsub.specs.BorrowsLeft.{HasBorrowsLeft};
-ghost use Rattle.message_patterns.specs.Values.{CanSend, OnNoValue, TakesMore, Wait};
+ghost use Rattle.message_patterns.specs.Values.{CanSendValues, OnNoValue, TakesMore, Wait};
 
 use crate::Numbers;
 use crate::failure::Failure;
@@ -29,7 +29,7 @@ pub fn relay(
     ensures moves { (origin : ℕ) (reader : Port) (values earlier : List ℕ) (more : ℕ) → KeepsAll from.old subscriber.now → Wait from.old origin subscriber.now values
         → TakesMore to.old (publisher_id publisher.now) reader earlier (n + more)
         → (count : ℕ) × (count ≤ n) × HasMoved from.new to.new origin subscriber.now (publisher_id publisher.now) reader values earlier count more × IfOk result (λ moved. moved ≡ count) }
-    ensures granted { IsUpToDate from.old subscriber.now → HasBorrowsLeft from.old subscriber.now 1 → CanSend to.old publisher.now n → IsOk result }
+    ensures granted { IsUpToDate from.old subscriber.now → HasBorrowsLeft from.old subscriber.now 1 → CanSendValues to.old publisher.now n → IsOk result }
     ensures all { IfOk result (λ moved. (moved ≡ n) ⊎ (waiting from.new subscriber.now ≡ 0)) }
     ensures up_to_date { UpToDateStay from.old from.new × UpToDateStay to.old to.new }
     ensures stays { Stays from.old from.new × Stays to.old to.new }
@@ -60,7 +60,7 @@ fn relay_one(
         → TakesMore to.new (publisher_id publisher.now) reader (earlier ++ value ∷ []) more)) }
     ensures unsent { OnNoValue result (WaitingStays to.old to.new) }
     ensures kept { KeepsAll from.old subscriber.now → OnNoValue result (WaitingStays from.old from.new) }
-    ensures granted { IsUpToDate from.old subscriber.now → HasBorrowsLeft from.old subscriber.now 1 → (left : ℕ) → CanSend to.old publisher.now (left + 1) → IsOk result × CanSend to.new publisher.now left }
+    ensures granted { IsUpToDate from.old subscriber.now → HasBorrowsLeft from.old subscriber.now 1 → (left : ℕ) → CanSendValues to.old publisher.now (left + 1) → IsOk result × CanSendValues to.new publisher.now left }
     ensures borrows { HasBorrowsLeft from.old subscriber.now 1 → HasBorrowsLeft from.new subscriber.now 1 }
     ensures none { IfOk result (λ read. IfNone read (waiting from.new subscriber.now ≡ 0)) }
     ensures up_to_date { UpToDateStay from.old from.new × UpToDateStay to.old to.new }

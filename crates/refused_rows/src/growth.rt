@@ -1,7 +1,7 @@
 //! The row of a publisher whose memory grows.
 ghost use Rattle.std.specs.Prelude.{◌≡◌, IfOk, IfSome};
 ghost use Rattle.iox2_pubsub.specs.Handles.{as_publisher, as_subscriber, as_unwritten, as_written};
-ghost use Rattle.iox2_pubsub.specs.Live.{IsLivePublisher, IsLiveSubscriber, IsNewIn, IsUnwrittenLoan, Stays, unwritten_loan};
+ghost use Rattle.iox2_pubsub.specs.Live.{IsLivePublisher, IsLiveSubscriber, IsNewIn, NeverWaitsUnwritten, Stays, unwritten_loan};
 ghost use Rattle.iox2_pubsub.specs.Slices.{IsSliced};
 
 use crate::answer::Service;
@@ -102,7 +102,7 @@ fn lend(
     requires one_unit { (domain.old.config).units_per_element ≡ 1 }
     requires sliced { IsSliced domain.old }
     requires publisher { IsLivePublisher domain.old (as_publisher publisher.now) }
-    ensures live { IfOk result (λ loan. IsUnwrittenLoan domain.new (as_unwritten loan)) }
+    ensures live { IfOk result (λ loan. NeverWaitsUnwritten domain.new (as_unwritten loan)) }
     ensures new { IfOk result (λ loan. IsNewIn domain.old (unwritten_loan (as_unwritten loan))) }
     ensures stays { IfOk result (λ _. Stays domain.old domain.new) }
 {

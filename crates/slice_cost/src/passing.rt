@@ -1,6 +1,6 @@
 //! Slices pass, each of whose elements is one value.
 ghost use Rattle.std.specs.Prelude.{◌≡◌, IfSome};
-ghost use Rattle.iox2_pubsub.specs.Live.{IsLivePublisher, IsLiveSubscriber, IsNewIn, IsUnwrittenLoan, IsWrittenLoan, Stays, StaysBut, unwritten_key, unwritten_loan, written_key, written_loan};
+ghost use Rattle.iox2_pubsub.specs.Live.{IsLivePublisher, IsLiveSubscriber, IsNewIn, NeverWaitsUnwritten, IsWrittenLoan, Stays, StaysBut, unwritten_key, unwritten_loan, written_key, written_loan};
 ghost use Rattle.slice_passing.specs.Slices.{PassesSlices};
 ghost use Rattle.iox2_pubsub.specs.Handles.{as_publisher, as_subscriber, as_unwritten, as_written};
 
@@ -34,7 +34,7 @@ fn lend(
 ) -> Option<SampleMutUninit>
     requires slices { PassesSlices domain.old }
     requires publisher { IsLivePublisher domain.old (as_publisher publisher.now) }
-    ensures live { IfSome result (λ loan. IsUnwrittenLoan domain.new (as_unwritten loan)) }
+    ensures live { IfSome result (λ loan. NeverWaitsUnwritten domain.new (as_unwritten loan)) }
     ensures new { IfSome result (λ loan. IsNewIn domain.old (unwritten_loan (as_unwritten loan))) }
     ensures stays { Stays domain.old domain.new }
 {
@@ -44,7 +44,7 @@ fn lend(
 #[inline(never)]
 fn write(domain: &mut Domain<u64, ()>, loan: SampleMutUninit, value: u64) -> SampleMut
     requires slices { PassesSlices domain.old }
-    requires loan { IsUnwrittenLoan domain.old (as_unwritten loan) }
+    requires loan { NeverWaitsUnwritten domain.old (as_unwritten loan) }
     ensures live { IsWrittenLoan domain.new (as_written result) }
     ensures key { written_key (as_written result) ≡ unwritten_key (as_unwritten loan) }
     ensures stays { StaysBut (unwritten_loan (as_unwritten loan)) domain.old domain.new }

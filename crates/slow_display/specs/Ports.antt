@@ -6,7 +6,7 @@ use Rattle.iox2_pubsub.specs.declared.subscriber.Subscriber.{Subscriber}
 
 module _ {T U F G : Type 0} (domain : Kept T U F G) where
   -- The publisher can send a reading: a message is one, and no send of it is blocked.
-  pub record CanSend (publisher : Publisher) : Type 0 where
+  pub record CanSendReading (publisher : Publisher) : Type 0 where
     pub single_valued : IsSingleValued domain
     pub ready : IsReadyPublisher domain publisher
 

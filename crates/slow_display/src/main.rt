@@ -6,7 +6,7 @@
 #![tactic(auto)]
 
 ghost use Rattle.iox2_pubsub.specs.Live.{Stays};
-ghost use Rattle.slow_display.specs.Ports.{CanReceive, CanSend};
+ghost use Rattle.slow_display.specs.Ports.{CanReceive, CanSendReading};
 
 mod display;
 mod failure;
@@ -64,7 +64,7 @@ fn report(
     publisher: &Publisher,
     display: &Subscriber,
 ) -> Result<(), Failure>
-    requires publisher { CanSend domain.old publisher.now }
+    requires publisher { CanSendReading domain.old publisher.now }
     requires display { CanReceive domain.old display.now }
     ensures { Stays domain.old domain.new }
 {
@@ -81,7 +81,7 @@ fn send_all(
     display: &Subscriber,
     readings: &[u32],
 ) -> Result<(), Failure>
-    requires publisher { CanSend domain.old publisher.now }
+    requires publisher { CanSendReading domain.old publisher.now }
     requires display { CanReceive domain.old display.now }
     ensures { Stays domain.old domain.new }
 {
@@ -99,7 +99,7 @@ fn send_some(
     publisher: &Publisher,
     readings: &[u32],
 ) -> Result<(), Failure>
-    requires publisher { CanSend domain.old publisher.now }
+    requires publisher { CanSendReading domain.old publisher.now }
     ensures { Stays domain.old domain.new }
 {
     if let Some(waiting) = send_until_full(domain, publisher, readings)? {

@@ -1,8 +1,8 @@
 //! Readings are sent to a display that may be full.
 ghost use Rattle.std.specs.Prelude.{◌≡◌, IfNone, IfOk, IfSome, MatchResult};
 ghost use Rattle.iox2_pubsub.specs.BlockedSends.{StaysSince};
-ghost use Rattle.iox2_pubsub.specs.Live.{A_blocked_send, IsBlockedSend, Stays, StaysBut, blocked_key, blocked_send, lender_key, publisher_key};
-ghost use Rattle.slow_display.specs.Ports.{CanSend};
+ghost use Rattle.iox2_pubsub.specs.Live.{A_blocked_send, IsBlockedSend, Stays, StaysBut, blocked_key, blocked_item, lender_key, publisher_key};
+ghost use Rattle.slow_display.specs.Ports.{CanSendReading};
 
 use crate::failure::Failure;
 use iox2_pubsub::{BlockedSend, Domain, Publisher, SendOutcome};
@@ -15,8 +15,8 @@ pub fn send_until_full(
     publisher: &Publisher,
     readings: &[u32],
 ) -> Result<Option<BlockedSend>, Failure>
-    requires publisher { CanSend domain.old publisher.now }
-    ensures waits { IfOk result (λ waiting. IfSome waiting (λ it. IsBlockedSend domain.new it × (lender_key (blocked_key it) ≡ publisher_key publisher.now) × (blocked_send it ≡ A_blocked_send publisher.now.id))) }
+    requires publisher { CanSendReading domain.old publisher.now }
+    ensures waits { IfOk result (λ waiting. IfSome waiting (λ it. IsBlockedSend domain.new it × (lender_key (blocked_key it) ≡ publisher_key publisher.now) × (blocked_item it ≡ A_blocked_send publisher.now.id))) }
     ensures sent { MatchResult result (λ waiting. IfNone waiting (Stays domain.old domain.new)) (λ _. Stays domain.old domain.new) }
     ensures stays { StaysBut (A_blocked_send publisher.now.id) domain.old domain.new }
 {

@@ -16,7 +16,7 @@ module _ {T U F G : Type 0} (domain : Kept T U F G) where
     pub display_is : IsLiveSubscriber domain display
 
   -- The publisher can't be refused that many more loans.
-  pub record CanLend (publisher : Publisher) (n : ℕ) : Type 0 where
+  pub record CanMeasure (publisher : Publisher) (n : ℕ) : Type 0 where
     pub loans : HasLoansLeft domain publisher n
     pub numbers : HasNumbersLeft domain n
 

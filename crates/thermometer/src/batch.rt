@@ -2,7 +2,7 @@
 //! user header.
 ghost use Rattle.std.specs.Prelude.{◌≡◌, ℕ, List, MatchResult};
 ghost use Rattle.iox2_pubsub.specs.Leaves.{LeavesBut};
-ghost use Rattle.iox2_pubsub.specs.Live.{AreApart, IsLiveSample, IsUnwrittenLoan, IsWrittenLoan, LoanHasUserHeader, unwritten_key, unwritten_loan, written_key, written_loan};
+ghost use Rattle.iox2_pubsub.specs.Live.{AreApart, IsLiveSample, NeverWaitsUnwritten, IsWrittenLoan, LoanHasUserHeader, unwritten_key, unwritten_loan, written_key, written_loan};
 ghost use Rattle.iox2_pubsub.specs.Slices.{HasValues, IsSliced};
 ghost use Rattle.iox2_pubsub.specs.Handles.{as_unwritten, as_written, written_number};
 ghost use Rattle.thermometer.specs.Changes.{ChangesLoan, SensorStays};
@@ -17,10 +17,10 @@ pub fn write_batch(
     temperatures: &[u32],
 ) -> Result<SampleMut, SampleMutUninit>
     requires sliced { IsSliced domain.old }
-    requires loan { IsUnwrittenLoan domain.old (as_unwritten loan) }
+    requires loan { NeverWaitsUnwritten domain.old (as_unwritten loan) }
     ensures written { MatchResult result
         (λ batch. IsWrittenLoan domain.new (as_written batch) × HasValues domain.new (written_number (as_written batch)) temperatures.now)
-        (λ loan. IsUnwrittenLoan domain.new (as_unwritten loan)) }
+        (λ loan. NeverWaitsUnwritten domain.new (as_unwritten loan)) }
     ensures sensor { (sensor : ℕ) → LoanHasUserHeader domain.old (unwritten_key (as_unwritten loan)) sensor
         → MatchResult result (λ batch. LoanHasUserHeader domain.new (written_key (as_written batch)) sensor) (λ loan. LoanHasUserHeader domain.new (unwritten_key (as_unwritten loan)) sensor) }
     ensures leaves { LeavesBut (unwritten_loan (as_unwritten loan)) domain.old domain.new }
@@ -34,7 +34,7 @@ pub fn write_batch(
 /// Writes a batch of one temperature, as often as the loan has cells.
 pub fn repeat(domain: &mut Domain<u32, u32>, loan: SampleMutUninit, celsius: u32) -> SampleMut
     requires sliced { IsSliced domain.old }
-    requires loan { IsUnwrittenLoan domain.old (as_unwritten loan) }
+    requires loan { NeverWaitsUnwritten domain.old (as_unwritten loan) }
     ensures live { IsWrittenLoan domain.new (as_written result) }
     ensures sensor { SensorStays domain.old domain.new (unwritten_key (as_unwritten loan)) (written_key (as_written result)) }
     ensures leaves { LeavesBut (unwritten_loan (as_unwritten loan)) domain.old domain.new }
@@ -81,7 +81,7 @@ pub fn read_around_a_write(
     requires sliced { IsSliced domain.old }
     requires received { IsLiveSample domain.old received.now }
     requires written { IsWrittenLoan domain.old (as_written written.now) }
-    requires loan { IsUnwrittenLoan domain.old (as_unwritten loan) }
+    requires loan { NeverWaitsUnwritten domain.old (as_unwritten loan) }
     requires apart { AreApart (unwritten_loan (as_unwritten loan)) (written_loan (as_written written.now)) }
     ensures { IsWrittenLoan domain.new (as_written result) }
 {

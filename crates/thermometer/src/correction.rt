@@ -1,5 +1,5 @@
 //! Readings are changed where they lie.
-ghost use Rattle.iox2_pubsub.specs.Live.{IsSingleValued, IsUnwrittenLoan, IsWrittenLoan, StaysBut, unwritten_loan};
+ghost use Rattle.iox2_pubsub.specs.Live.{IsSingleValued, NeverWaitsUnwritten, IsWrittenLoan, StaysBut, unwritten_loan};
 ghost use Rattle.thermometer.specs.Changes.{ChangesLoan};
 
 use crate::failure::Failure;
@@ -14,7 +14,7 @@ pub fn send_corrected(
     corrected: u32,
 ) -> Result<(), Failure>
     requires single_valued { IsSingleValued domain.old }
-    requires loan { IsUnwrittenLoan domain.old loan }
+    requires loan { NeverWaitsUnwritten domain.old loan }
     ensures { StaysBut (unwritten_loan loan) domain.old domain.new }
 {
     let mut message = loan.write_payload(domain, Reading { celsius });

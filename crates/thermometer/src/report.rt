@@ -1,8 +1,8 @@
 //! Readings go from the thermometer to the display.
-ghost use Rattle.iox2_pubsub.specs.Live.{AreAll, AreApart, Both, IsLiveSubscriber, IsSingleValued, IsUnwrittenLoan, Stays, StaysBut, payloads, unwritten_loan, waiting};
+ghost use Rattle.iox2_pubsub.specs.Live.{AreAll, AreApart, Both, IsLiveSubscriber, IsSingleValued, NeverWaitsUnwritten, Stays, StaysBut, payloads, unwritten_loan, waiting};
 ghost use Rattle.std.specs.Prelude.{◌≡◌, ℕ, IfOk, IfSome};
 ghost use Rattle.iox2_pubsub.specs.declared.subscriber.Subscriber.{Subscriber as SubscriberHandle};
-ghost use Rattle.thermometer.specs.Ports.{CanLend, HasPorts};
+ghost use Rattle.thermometer.specs.Ports.{CanMeasure, HasPorts};
 
 use crate::failure::Failure;
 use crate::reading::Reading;
@@ -16,7 +16,7 @@ pub fn report_both(
     subscriber: &Subscriber,
 ) -> Result<(), Failure>
     requires ports { HasPorts domain.old publisher.now subscriber.now }
-    requires loans { CanLend domain.old publisher.now 2 }
+    requires loans { CanMeasure domain.old publisher.now 2 }
     ensures { Stays domain.old domain.new }
 {
     publisher.update_connections(domain)?;
@@ -55,7 +55,7 @@ fn report_pair(
     later: u32,
 ) -> Result<(), Failure>
     requires ports { HasPorts domain.old publisher.now subscriber.now }
-    requires loans { CanLend domain.old publisher.now 2 }
+    requires loans { CanMeasure domain.old publisher.now 2 }
     ensures { Stays domain.old domain.new }
 {
     let first = publisher.loan_uninit(domain).unwrap();
@@ -73,8 +73,8 @@ fn send_pair(
     later: u32,
 ) -> Result<(), Failure>
     requires single_valued { IsSingleValued domain.old }
-    requires first { IsUnwrittenLoan domain.old first }
-    requires second { IsUnwrittenLoan domain.old second }
+    requires first { NeverWaitsUnwritten domain.old first }
+    requires second { NeverWaitsUnwritten domain.old second }
     requires apart { AreApart (unwritten_loan second) (unwritten_loan first) }
     ensures { StaysBut (Both (unwritten_loan first) (unwritten_loan second)) domain.old domain.new }
 {
@@ -105,7 +105,7 @@ fn send(
     celsius: u32,
 ) -> Result<(), Failure>
     requires single_valued { IsSingleValued domain.old }
-    requires loan { IsUnwrittenLoan domain.old loan }
+    requires loan { NeverWaitsUnwritten domain.old loan }
     ensures brings { (subscriber : SubscriberHandle) → (domain.old.config).history_size ≡ 0 → waiting domain.old subscriber ≡ 0
         → AreAll (payloads domain.new subscriber) (record { celsius = celsius }) }
     ensures stays { StaysBut (unwritten_loan loan) domain.old domain.new }

@@ -4,7 +4,7 @@ ghost use Rattle.iox2_pubsub.specs.Live.{AreAllSlices, IsLivePublisher, IsLiveSu
 ghost use Rattle.iox2_pubsub.specs.LoansLeft.{HasNumbersLeft};
 ghost use Rattle.iox2_pubsub.specs.declared.subscriber.Subscriber.{Subscriber as SubscriberHandle};
 ghost use Rattle.iox2_pubsub.specs.Handles.{as_publisher, as_subscriber, max_slice_len_of};
-ghost use Rattle.thermometer.specs.Ports.{CanLend, HasSeries, PassesSeries};
+ghost use Rattle.thermometer.specs.Ports.{CanMeasure, HasSeries, PassesSeries};
 
 use crate::failure::Failure;
 use iox2_pubsub::slice::{Publisher, SampleMut, Subscriber};
@@ -53,7 +53,7 @@ fn send_both(
 ) -> Result<Option<usize>, Failure>
     requires ports { PassesSeries domain.old (as_publisher publisher.now) (as_subscriber subscriber.now) }
     requires longest { max_slice_len_of (as_publisher publisher.now) ≡ 3 }
-    requires loans { CanLend domain.old (as_publisher publisher.now) 1 }
+    requires loans { CanMeasure domain.old (as_publisher publisher.now) 1 }
     ensures { Stays domain.old domain.new }
 {
     send_made(domain, publisher)?;
@@ -67,7 +67,7 @@ fn send_made(domain: &mut Domain<u64, ()>, publisher: &Publisher) -> Result<(), 
     requires series { HasSeries domain.old }
     requires publisher { IsLivePublisher domain.old (as_publisher publisher.now) }
     requires longest { max_slice_len_of (as_publisher publisher.now) ≡ 3 }
-    requires loans { CanLend domain.old (as_publisher publisher.now) 1 }
+    requires loans { CanMeasure domain.old (as_publisher publisher.now) 1 }
     ensures { Stays domain.old domain.new }
 {
     let loan = publisher.loan_slice_uninit(domain, 3).unwrap();

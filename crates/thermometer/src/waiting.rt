@@ -3,7 +3,7 @@
 ghost use Rattle.std.specs.Prelude.{◌≡◌, ℕ, suc, IfOk, IfSome, OnOk, OnSome};
 ghost use Rattle.iox2_pubsub.specs.Leaves.{LeavesBut};
 ghost use Rattle.iox2_pubsub.specs.declared.Header.{Header};
-ghost use Rattle.iox2_pubsub.specs.Live.{AreAll, IsLiveSubscriber, IsSingleValued, IsUnwrittenLoan, IsUpToDate, IsWrittenLoan, LoanHasHeader, LoanHasUserHeader, LoanReads, payloads, unwritten_key, unwritten_loan, waiting, written_key};
+ghost use Rattle.iox2_pubsub.specs.Live.{AreAll, IsLiveSubscriber, IsSingleValued, NeverWaitsUnwritten, IsUpToDate, IsWrittenLoan, LoanHasHeader, LoanHasUserHeader, LoanReads, payloads, unwritten_key, unwritten_loan, waiting, written_key};
 ghost use Rattle.thermometer.specs.Changes.{ChangesLoan, SensorStays};
 
 use crate::failure::Failure;
@@ -71,7 +71,7 @@ pub fn fill(
     celsius: u32,
 ) -> SampleMut
     requires single_valued { IsSingleValued domain.old }
-    requires loan { IsUnwrittenLoan domain.old loan }
+    requires loan { NeverWaitsUnwritten domain.old loan }
     ensures live { IsWrittenLoan domain.new result }
     ensures reads { LoanReads domain.new result (record { celsius = celsius }) }
     ensures header { (header : Header) → LoanHasHeader domain.old (unwritten_key loan) header → LoanHasHeader domain.new (written_key result) header }

@@ -23,7 +23,7 @@ module _ {T U F G : Type 0} (domain : Kept T U F G) where
     pub room : HasRoomFor domain subscriber 0
 
   -- So it is. The publisher is live, connected with the subscriber, and is not refused a loan.
-  pub record AreJoined (publisher : Publisher) (subscriber : Subscriber) : Type 0 where
+  pub record CanPassOn (publisher : Publisher) (subscriber : Subscriber) : Type 0 where
     pub reads : CanRead subscriber
     pub live : IsLivePublisher domain publisher
     pub connected : IsConnected domain publisher.id subscriber

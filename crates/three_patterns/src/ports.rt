@@ -4,7 +4,7 @@ ghost use Rattle.iox2_pubsub.specs.Domains.{FixedSize};
 ghost use Rattle.iox2_pubsub.specs.Live.{ConnectionsStay, IsLivePublisher, IsLiveSubscriber, IsNewIn, RoomStays, Stays, publisher_port};
 ghost use Rattle.iox2_pubsub.specs.BorrowsLeft.{BorrowsLeftStay};
 ghost use Rattle.iox2_pubsub.specs.LoansLeft.{LoansLeftStay};
-ghost use Rattle.three_patterns.specs.Ports.{AreJoined, CanRead, IsSetUp};
+ghost use Rattle.three_patterns.specs.Ports.{CanPassOn, CanRead, IsSetUp};
 
 use crate::failure::Failure;
 use iox2_pubsub::{BackpressureStrategy, Publisher, ServiceConfig, Subscriber};
@@ -51,7 +51,7 @@ pub fn settings(service_id: u128) -> ServiceConfig
 /// Makes a subscriber, and a publisher that is connected with it.
 pub fn join(domain: &mut Numbers) -> Result<Pair, Failure>
     requires { IsSetUp domain.old }
-    ensures { IfOk result (λ it. AreJoined domain.new it.publisher it.subscriber) }
+    ensures { IfOk result (λ it. CanPassOn domain.new it.publisher it.subscriber) }
 {
     let subscriber = domain.subscriber_builder().create(domain)?;
     match connected_publisher(domain, &subscriber) {
@@ -72,7 +72,7 @@ pub fn connected_publisher(
     subscriber: &Subscriber,
 ) -> Result<Publisher, Failure>
     requires { CanRead domain.old subscriber.now }
-    ensures joined { IfOk result (λ it. AreJoined domain.new it subscriber.now) }
+    ensures joined { IfOk result (λ it. CanPassOn domain.new it subscriber.now) }
     ensures is_new { IfOk result (λ it. IsNewIn domain.old (publisher_port it)) }
     ensures connections { OnOk result (ConnectionsStay domain.old domain.new) }
     ensures room { OnOk result (RoomStays domain.old domain.new) }

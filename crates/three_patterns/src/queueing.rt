@@ -4,7 +4,7 @@ ghost use Rattle.iox2_pubsub.specs.Handles.{publisher_id};
 ghost use Rattle.iox2_pubsub.specs.Live.{Stays};
 ghost use Rattle.message_patterns.specs.Queues.{AreQueuePorts};
 ghost use Rattle.message_patterns.specs.Values.{Wait};
-ghost use Rattle.three_patterns.specs.Ports.{AreJoined};
+ghost use Rattle.three_patterns.specs.Ports.{CanPassOn};
 
 use crate::failure::Failure;
 use crate::ports::{Pair, join, settings};
@@ -54,7 +54,7 @@ fn expect_idle(
     publisher: &Publisher,
     subscriber: &Subscriber,
 ) -> Result<(), Failure>
-    requires joined { AreJoined domain.old publisher.now subscriber.now }
+    requires joined { CanPassOn domain.old publisher.now subscriber.now }
     ensures ports { OnOk result (AreQueuePorts domain.new publisher.now subscriber.now) }
     ensures drained { OnOk result (Wait domain.new (publisher_id publisher.now) subscriber.now []) }
     ensures stays { Stays domain.old domain.new }

@@ -3,7 +3,7 @@ ghost use Rattle.std.specs.Prelude.{◌≢◌, IfOk};
 ghost use Rattle.iox2_pubsub.specs.Handles.{publisher_id};
 ghost use Rattle.iox2_pubsub.specs.Live.{Stays};
 ghost use Rattle.message_patterns.specs.Votes.{IsMiddle};
-ghost use Rattle.three_patterns.specs.Ports.{AreJoined, IsSetUp};
+ghost use Rattle.three_patterns.specs.Ports.{CanPassOn, IsSetUp};
 
 use crate::failure::Failure;
 use crate::ports::{connected_publisher, join, settings};
@@ -37,7 +37,7 @@ fn with_second(
     subscriber: &Subscriber,
     readings: (u32, u32, u32),
 ) -> Result<u32, Failure>
-    requires first { AreJoined domain.old first.now subscriber.now }
+    requires first { CanPassOn domain.old first.now subscriber.now }
     ensures middle { IfOk result (λ it. IsMiddle it readings.0 readings.1 readings.2) }
     ensures stays { Stays domain.old domain.new }
 {
@@ -55,8 +55,8 @@ fn with_third(
     subscriber: &Subscriber,
     readings: (u32, u32, u32),
 ) -> Result<u32, Failure>
-    requires first { AreJoined domain.old first.now subscriber.now }
-    requires second { AreJoined domain.old second.now subscriber.now }
+    requires first { CanPassOn domain.old first.now subscriber.now }
+    requires second { CanPassOn domain.old second.now subscriber.now }
     requires apart { publisher_id first.now ≢ publisher_id second.now }
     ensures middle { IfOk result (λ it. IsMiddle it readings.0 readings.1 readings.2) }
     ensures stays { Stays domain.old domain.new }
@@ -76,9 +76,9 @@ fn vote_if_idle(
     subscriber: &Subscriber,
     readings: (u32, u32, u32),
 ) -> Result<u32, Failure>
-    requires first { AreJoined domain.old first.now subscriber.now }
-    requires second { AreJoined domain.old second.now subscriber.now }
-    requires third { AreJoined domain.old third.now subscriber.now }
+    requires first { CanPassOn domain.old first.now subscriber.now }
+    requires second { CanPassOn domain.old second.now subscriber.now }
+    requires third { CanPassOn domain.old third.now subscriber.now }
     requires apart { (publisher_id second.now ≢ publisher_id third.now) × (publisher_id first.now ≢ publisher_id third.now) × (publisher_id first.now ≢ publisher_id second.now) }
     ensures middle { IfOk result (λ it. IsMiddle it readings.0 readings.1 readings.2) }
     ensures stays { Stays domain.old domain.new }

@@ -3,7 +3,7 @@ ghost use Rattle.std.specs.Prelude.{ℕ, List, length, ◌≡◌, ◌<◌, ◌�
 ghost use Rattle.iox2_pubsub.specs.Handles.{as_written, written_number};
 ghost use Rattle.iox2_pubsub.specs.Live.{A_loan, IsLoanKey, IsWritten, written_key};
 ghost use Rattle.iox2_pubsub.specs.Slices.{HasValues};
-ghost use Rattle.iox2_c.specs.Calls.{IsOut, RefusesLoan};
+ghost use Rattle.iox2_c.specs.Calls.{IsOut, IsRefusedLoan};
 ghost use Rattle.iox2_c.specs.Numbers.{named_loan, wide};
 ghost use Rattle.iox2_c.specs.Serving.{ServesBut};
 ghost use Rattle.iox2_c.specs.Steps.{Discards};
@@ -33,7 +33,7 @@ pub fn written_loan(domain: &BytesDomain, numbers: &LoanNumbers, book: usize) ->
 
 /// Gives a loan back unsent.
 pub fn discard(service: &mut Service, numbers: &LoanNumbers) -> u32
-    ensures code { ((result ≡ 0) × IsOut service.old.domain (named_loan numbers.now)) ⊎ RefusesLoan service.old.domain (named_loan numbers.now) result }
+    ensures code { ((result ≡ 0) × IsOut service.old.domain (named_loan numbers.now)) ⊎ IsRefusedLoan service.old.domain (named_loan numbers.now) result }
     ensures discards { result ≡ 0 → Discards service.old.domain service.new.domain (wide (numbers.now).number) }
     ensures spent { result ≡ 0 → IsLoanKey service.new.domain (named_loan numbers.now) → ⊥ }
     ensures refused { 0 < result → service.new ≡ service.old }
@@ -50,7 +50,7 @@ pub fn discard(service: &mut Service, numbers: &LoanNumbers) -> u32
 
 /// Where the bytes of a loan lie.
 pub fn payload(service: &Service, numbers: &LoanNumbers, out: &mut *mut u8, len: &mut usize) -> u32
-    ensures code { (result ≡ 0) ⊎ RefusesLoan service.now.domain (named_loan numbers.now) result }
+    ensures code { (result ≡ 0) ⊎ IsRefusedLoan service.now.domain (named_loan numbers.now) result }
     ensures out { result ≡ 0 → IsOut service.now.domain (named_loan numbers.now) }
     ensures length { result ≡ 0 → (values : List ℕ) → HasValues service.now.domain (wide (numbers.now).number) values → len.new ≡ length values }
     ensures same { 0 < result → len.new ≡ len.old }

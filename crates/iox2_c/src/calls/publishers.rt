@@ -4,11 +4,11 @@ ghost use Rattle.iox2_machine.specs.declared.errors.PublisherCreateError.{Publis
 ghost use Rattle.iox2_pubsub.specs.Factories.{with_slots};
 ghost use Rattle.iox2_pubsub.specs.Handles.{max_slice_len_of, strategy_of as handle_strategy, as_publisher, publisher_id};
 ghost use Rattle.iox2_pubsub.specs.Live.{A_publisher, IsNewIn, IsPublisherKey, IsReadyPublisher, No_item, publisher_key};
-ghost use Rattle.iox2_c.specs.Calls.{IsReady, MakesPublisher, RefusesPublisher};
+ghost use Rattle.iox2_c.specs.Calls.{IsReadyKey, MakesPublisher, RefusesPublisher};
 ghost use Rattle.iox2_c.specs.Codes.{code_of, first_setting_code, publisher_code, slots_numbered, strategy_numbered};
 ghost use Rattle.iox2_c.specs.Numbers.{named_publisher, wide};
 ghost use Rattle.iox2_c.specs.Serving.{ServesBut};
-ghost use Rattle.iox2_c.specs.Settings.{ReadsSettings, invalid_publisher_option, plain_publisher_settings, publisher_settings, unasked_settings};
+ghost use Rattle.iox2_c.specs.Settings.{ReadsSettings, invalid_publisher_option, plain_publisher_settings, settings_of_options, unasked_settings};
 ghost use Rattle.iox2_c.specs.Steps.{ClosesPublisher, CreatesPublisher};
 
 use crate::config::{Config, strategy_of};
@@ -28,7 +28,7 @@ type Factory = PortFactoryPublisher<NoHandler, NoHandler>;
 pub fn create(service: &mut Service, out: &mut PublisherNumbers) -> u32
     ensures creates { result ≡ 0 → CreatesPublisher service.old.domain service.new.domain (plain_publisher_settings service.old) (Ok (wide (out.new).id)) }
     ensures errors { 0 < result → (error : PublisherCreateError) × (result ≡ publisher_code error) × CreatesPublisher service.old.domain service.new.domain (plain_publisher_settings service.old) (Err error) }
-    ensures ready { result ≡ 0 → IsReady service.new.domain (named_publisher out.new) }
+    ensures ready { result ≡ 0 → IsReadyKey service.new.domain (named_publisher out.new) }
     ensures new { result ≡ 0 → IsNewIn service.old.domain (A_publisher (wide (out.new).id)) }
     ensures reads { result ≡ 0 → ReadsSettings out.new (plain_publisher_settings service.old) }
     ensures same { 0 < result → out.new ≡ out.old }
@@ -124,13 +124,13 @@ pub fn create_with(
     options: &PublisherOptions,
     out: &mut PublisherNumbers,
 ) -> u32
-    ensures creates { result ≡ 0 → CreatesPublisher service.old.domain service.new.domain (publisher_settings (service.old.domain).config options.now) (Ok (wide (out.new).id)) }
-    ensures errors { 0 < result → result < first_setting_code → (error : PublisherCreateError) × (result ≡ publisher_code error) × CreatesPublisher service.old.domain service.new.domain (publisher_settings (service.old.domain).config options.now) (Err error) }
+    ensures creates { result ≡ 0 → CreatesPublisher service.old.domain service.new.domain (settings_of_options (service.old.domain).config options.now) (Ok (wide (out.new).id)) }
+    ensures errors { 0 < result → result < first_setting_code → (error : PublisherCreateError) × (result ≡ publisher_code error) × CreatesPublisher service.old.domain service.new.domain (settings_of_options (service.old.domain).config options.now) (Err error) }
     ensures valid { result < first_setting_code → invalid_publisher_option service.old.payload_alignment options.now ≡ 0 }
     ensures invalid { first_setting_code ≤ result → (result ≡ invalid_publisher_option service.old.payload_alignment options.now) × (service.new ≡ service.old) }
-    ensures ready { result ≡ 0 → IsReady service.new.domain (named_publisher out.new) }
+    ensures ready { result ≡ 0 → IsReadyKey service.new.domain (named_publisher out.new) }
     ensures new { result ≡ 0 → IsNewIn service.old.domain (A_publisher (wide (out.new).id)) }
-    ensures reads { result ≡ 0 → ReadsSettings out.new (publisher_settings (service.old.domain).config options.now) }
+    ensures reads { result ≡ 0 → ReadsSettings out.new (settings_of_options (service.old.domain).config options.now) }
     ensures same { 0 < result → out.new ≡ out.old }
     ensures stays { ServesBut No_item service.old service.new }
 {
@@ -168,7 +168,7 @@ pub fn ready_publisher(domain: &BytesDomain, numbers: &PublisherNumbers) -> Resu
 /// Closes a publisher.
 pub fn close(service: &mut Service, numbers: &PublisherNumbers) -> u32
     ensures code { (result ≡ 0) ⊎ RefusesPublisher service.old.domain (named_publisher numbers.now) result }
-    ensures ready { result ≡ 0 → IsReady service.old.domain (named_publisher numbers.now) }
+    ensures ready { result ≡ 0 → IsReadyKey service.old.domain (named_publisher numbers.now) }
     ensures closed { result ≡ 0 → ClosesPublisher service.old.domain service.new.domain (wide (numbers.now).id) }
     ensures spent { result ≡ 0 → IsPublisherKey service.new.domain (named_publisher numbers.now) → ⊥ }
     ensures refused { 0 < result → service.new ≡ service.old }

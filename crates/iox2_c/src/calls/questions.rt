@@ -14,7 +14,7 @@ ghost use Rattle.iox2_c.specs.Numbers.{named_loan, named_publisher, named_subscr
 ghost use Rattle.iox2_c.specs.Serving.{ServesBut};
 ghost use Rattle.iox2_c.specs.Settings.{config_size, settings_in, settings_of};
 ghost use Rattle.iox2_c.specs.Warnings.{TellsOf};
-ghost use Rattle.iox2_c.specs.Steps.{Asks, UpdatesPublisher, UpdatesSubscriber};
+ghost use Rattle.iox2_c.specs.Steps.{Asks, PublisherUpdates, SubscriberUpdates};
 
 use crate::calls::publishers::ready_publisher;
 use crate::calls::samples::copy_bytes;
@@ -32,7 +32,7 @@ use std::alloc::Global;
 /// Makes and removes a publisher's connections.
 pub fn update_publisher(service: &mut Service, numbers: &PublisherNumbers) -> u32
     ensures code { result ≡ 1 → ⊥ }
-    ensures updates { (result ≡ 0) ⊎ (10 ≤ result) → (updated : Result (Unit {0}) ConnectionFailure) × (result ≡ code_of failure_code updated) × UpdatesPublisher service.old.domain service.new.domain (wide (numbers.now).id) updated }
+    ensures updates { (result ≡ 0) ⊎ (10 ≤ result) → (updated : Result (Unit {0}) ConnectionFailure) × (result ≡ code_of failure_code updated) × PublisherUpdates service.old.domain service.new.domain (wide (numbers.now).id) updated }
     ensures why { 1 < result → result < 10 → RefusesPublisher service.old.domain (named_publisher numbers.now) result × (service.new ≡ service.old) }
     ensures stays { ServesBut No_item service.old service.new }
 {
@@ -51,7 +51,7 @@ pub fn update_publisher(service: &mut Service, numbers: &PublisherNumbers) -> u3
 /// Makes and removes a subscriber's connections.
 pub fn update_subscriber(service: &mut Service, numbers: &SubscriberNumbers) -> u32
     ensures code { result ≡ 1 → ⊥ }
-    ensures updates { (result ≡ 2 → ⊥) → (updated : Result (Unit {0}) ConnectionFailure) × (result ≡ code_of failure_code updated) × UpdatesSubscriber service.old.domain service.new.domain (wide (numbers.now).id) updated }
+    ensures updates { (result ≡ 2 → ⊥) → (updated : Result (Unit {0}) ConnectionFailure) × (result ≡ code_of failure_code updated) × SubscriberUpdates service.old.domain service.new.domain (wide (numbers.now).id) updated }
     ensures not_live { result ≡ 2 → (IsSubscriberKey service.old.domain (named_subscriber numbers.now) → ⊥) × (service.new ≡ service.old) }
     ensures stays { ServesBut No_item service.old service.new }
 {

@@ -7,7 +7,7 @@ ghost use Rattle.iox2_pubsub.specs.Slices.{SampleHasValues};
 ghost use Rattle.iox2_c.specs.Numbers.{IsHeader, named_sample, wide};
 ghost use Rattle.iox2_c.specs.Returns.{ReleaseReturns};
 ghost use Rattle.iox2_c.specs.Serving.{ServesBut};
-ghost use Rattle.iox2_c.specs.Steps.{Releases};
+ghost use Rattle.iox2_c.specs.Steps.{SubscriberReleases};
 
 use crate::numbers::{HeaderNumbers, SampleNumbers};
 use crate::service::{BytesDomain, Service};
@@ -99,7 +99,7 @@ pub fn copy_out(
     ensures code { (result ≡ 0) ⊎ (result ≡ 9) }
     ensures copied { result ≡ 0 → SampleHasValues service.old.domain (sample_key sample) (take len.new bytes.new) }
     ensures fits { result ≡ 0 → len.new ≤ length bytes.old }
-    ensures releases { result ≡ 0 → Releases service.old.domain service.new.domain (receiver_of sample) (sample_number sample) }
+    ensures releases { result ≡ 0 → SubscriberReleases service.old.domain service.new.domain (receiver_of sample) (sample_number sample) }
     ensures kept { result ≡ 9 → service.new ≡ service.old }
     ensures named { result ≡ 9 → named_sample out.new ≡ sample_key sample }
     ensures origin { result ≡ 9 → wide (out.new).origin ≡ origin_of sample }

@@ -11,7 +11,7 @@ ghost use Rattle.iox2_c.specs.Codes.{receivers_of, sent_code};
 ghost use Rattle.iox2_c.specs.Numbers.{named_loan, named_publisher, wide};
 ghost use Rattle.iox2_c.specs.Returns.{SendReturns, TellsSent};
 ghost use Rattle.iox2_c.specs.Serving.{IsOfBytes, ServesBut};
-ghost use Rattle.iox2_c.specs.Steps.{GivesUp, Retries, SendsCopy};
+ghost use Rattle.iox2_c.specs.Steps.{BlockedSendGivesUp, BlockedSendRetries, SendsBytes};
 
 use crate::calls::loans::written_loan;
 use crate::calls::publishers::ready_publisher;
@@ -170,7 +170,7 @@ pub fn send_copy(
     blocked: &mut LoanNumbers,
 ) -> u32
     ensures code { result ≡ 1 → ⊥ }
-    ensures sent { result ≢ 2 → result ≢ 7 → (outcome : Result SendOutcome SendError) × (result ≡ sent_code outcome) × (receivers.new ≡ receivers_of receivers.old outcome) × SendsCopy service.old.domain service.new.domain (wide (numbers.now).id) bytes.now outcome }
+    ensures sent { result ≢ 2 → result ≢ 7 → (outcome : Result SendOutcome SendError) × (result ≡ sent_code outcome) × (receivers.new ≡ receivers_of receivers.old outcome) × SendsBytes service.old.domain service.new.domain (wide (numbers.now).id) bytes.now outcome }
     ensures why { (result ≡ 2) ⊎ (result ≡ 7) → RefusesPublisher service.old.domain (named_publisher numbers.now) result × (service.new ≡ service.old) }
     ensures waits { result ≡ 6 → IsBlockedKey service.new.domain (named_loan blocked.new) }
     ensures same { result ≢ 6 → blocked.new ≡ blocked.old }
@@ -204,7 +204,7 @@ fn send_bytes(
 ) -> Result<SendOutcome, SendError>
     requires ready { IsReadyPublisher domain.old (as_publisher publisher.now) }
     requires bytes { IsOfBytes domain.old }
-    ensures sends { SendsCopy domain.old domain.new (publisher_id (as_publisher publisher.now)) bytes.now result }
+    ensures sends { SendsBytes domain.old domain.new (publisher_id (as_publisher publisher.now)) bytes.now result }
     ensures waits { IfOk result (λ outcome. IfBlocked outcome (λ it. IsBlockedKey domain.new (blocked_key it))) }
     ensures stays { StaysBut (spent_by_copy (as_publisher publisher.now) result) domain.old domain.new }
 {
@@ -223,7 +223,7 @@ pub fn retry(
 ) -> u32
     ensures code { result ≡ 1 → ⊥ }
     ensures ends { (result ≡ 2 → ⊥) → (outcome : Result SendOutcome SendError) × (result ≡ sent_code outcome) × (receivers.new ≡ receivers_of receivers.old outcome)
-        × Retries service.old.domain service.new.domain (wide (numbers.now).publisher) elapsed outcome }
+        × BlockedSendRetries service.old.domain service.new.domain (wide (numbers.now).publisher) elapsed outcome }
     ensures not_live { result ≡ 2 → (IsBlockedKey service.old.domain (named_loan numbers.now) → ⊥) × (service.new ≡ service.old) }
     ensures same_count { result ≡ 2 → receivers.new ≡ receivers.old }
     ensures stays { ServesBut (A_blocked_send (wide (numbers.now).publisher)) service.old service.new }
@@ -248,7 +248,7 @@ pub fn retry(
 pub fn give_up(service: &mut Service, numbers: &LoanNumbers, receivers: &mut usize) -> u32
     ensures code { result ≡ 1 → ⊥ }
     ensures ends { (result ≡ 2 → ⊥) → (outcome : Result SendOutcome SendError) × (result ≡ sent_code outcome) × (receivers.new ≡ receivers_of receivers.old outcome)
-        × GivesUp service.old.domain service.new.domain (wide (numbers.now).publisher) outcome }
+        × BlockedSendGivesUp service.old.domain service.new.domain (wide (numbers.now).publisher) outcome }
     ensures not_live { result ≡ 2 → (IsBlockedKey service.old.domain (named_loan numbers.now) → ⊥) × (service.new ≡ service.old) }
     ensures same_count { result ≡ 2 → receivers.new ≡ receivers.old }
     ensures stays { ServesBut (A_blocked_send (wide (numbers.now).publisher)) service.old service.new }

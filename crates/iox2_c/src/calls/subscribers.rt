@@ -12,7 +12,7 @@ ghost use Rattle.iox2_c.specs.Numbers.{named_sample, named_subscriber, wide};
 ghost use Rattle.iox2_c.specs.Returns.{ReceiveReturns};
 ghost use Rattle.iox2_c.specs.Serving.{ServesBut};
 ghost use Rattle.iox2_c.specs.Settings.{invalid_subscriber_option, plain_subscriber_settings, subscriber_settings};
-ghost use Rattle.iox2_c.specs.Steps.{ClosesSubscriber, CreatesSubscriber, Receives, ReceivesCopy};
+ghost use Rattle.iox2_c.specs.Steps.{ClosesSubscriber, CreatesSubscriber, SubscriberReceives, ReceivesCopy};
 
 use crate::calls::samples;
 use crate::config::Config;
@@ -286,13 +286,13 @@ pub fn receive_copy(
     ensures code { result ≡ 1 → ⊥ }
     ensures copied { result ≡ 0 → (key : Key) × (key.port ≡ wide (numbers.now).id) × (origin : ℕ) × ReceivesCopy service.old.domain service.new.domain key origin (take len.new bytes.new) }
     ensures fits { result ≡ 0 → len.new ≤ length bytes.old }
-    ensures kept { result ≡ 9 → Receives service.old.domain service.new.domain (wide (numbers.now).id) (Got_sample (wide (out.new).origin) (wide (out.new).number)) }
+    ensures kept { result ≡ 9 → SubscriberReceives service.old.domain service.new.domain (wide (numbers.now).id) (Got_sample (wide (out.new).origin) (wide (out.new).number)) }
     ensures live { result ≡ 9 → IsSampleKey service.new.domain (named_sample out.new) }
     ensures new { result ≡ 9 → IsNewIn service.old.domain (A_sample (wide (out.new).subscriber) (wide (out.new).number)) }
     ensures small { result ≡ 9 → length bytes.old < len.new }
     ensures length { result ≡ 9 → (values : List ℕ) → SampleHasValues service.new.domain (named_sample out.new) values → len.new ≡ length values }
-    ensures nothing { result ≡ 3 → Receives service.old.domain service.new.domain (wide (numbers.now).id) No_sample }
-    ensures errors { 3 < result → result ≢ 9 → (error : ReceiveError) × (result ≡ receive_code error) × Receives service.old.domain service.new.domain (wide (numbers.now).id) (Receive_error error) }
+    ensures nothing { result ≡ 3 → SubscriberReceives service.old.domain service.new.domain (wide (numbers.now).id) No_sample }
+    ensures errors { 3 < result → result ≢ 9 → (error : ReceiveError) × (result ≡ receive_code error) × SubscriberReceives service.old.domain service.new.domain (wide (numbers.now).id) (Receive_error error) }
     ensures not_live { result ≡ 2 → (IsSubscriberKey service.old.domain (named_subscriber numbers.now) → ⊥) × (service.new ≡ service.old) }
     ensures same { 0 < result → bytes.new ≡ bytes.old }
     ensures same_numbers { result ≢ 9 → out.new ≡ out.old }

@@ -6,7 +6,7 @@ ghost use Rattle.iox2_pubsub.specs.declared.send_outcome.SendOutcome.{SendOutcom
 ghost use Rattle.iox2_pubsub.specs.Live.{A_sent_loan, IsBlockedKey, IsLoanKey};
 ghost use Rattle.iox2_c.specs.Boxed.{Becomes, HoldsOn, Knows, KnowsNo};
 ghost use Rattle.iox2_c.specs.Codes.{receivers_of, sent_code};
-ghost use Rattle.iox2_c.specs.ConnectionSends.{IsRefusal, RefusesSendTo, SendsLoanTo};
+ghost use Rattle.iox2_c.specs.ConnectionSends.{IsRefusal, RefusesSendTo, SendsNumberedTo};
 ghost use Rattle.iox2_c.specs.Numbers.{named_loan, wide};
 
 use crate::calls::connection_sends;
@@ -27,7 +27,7 @@ pub extern "C" fn iox2ps_loan_deliver_offset_to_connection_counted(
 ) -> u32
     ensures no_domain { (result ≡ 1) ↔ (domain.old.service ≡ None) }
     ensures sent { result ≢ 1 → (IsRefusal result → ⊥) → (outcome : Result SendOutcome SendError) × (result ≡ sent_code outcome) × (receivers.new ≡ receivers_of receivers.old outcome)
-        × Becomes (λ old new. SendsLoanTo old new (wide (loan.now).number) channel connection outcome) domain.old.service domain.new.service }
+        × Becomes (λ old new. SendsNumberedTo old new (wide (loan.now).number) channel connection outcome) domain.old.service domain.new.service }
     ensures why { IsRefusal result → Knows (λ kept. RefusesSendTo kept (named_loan loan.now) channel result) domain.old.service }
     ensures refused { IsRefusal result → domain.new.service ≡ domain.old.service }
     ensures waits { result ≡ 6 → Knows (λ kept. IsBlockedKey kept (named_loan blocked.new)) domain.new.service }

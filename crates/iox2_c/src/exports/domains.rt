@@ -7,7 +7,7 @@ ghost use Rattle.iox2_machine.specs.machine.Ports.{default_publisher_settings, d
 ghost use Rattle.iox2_machine.specs.machine.State.{fresh, no_messages};
 ghost use Rattle.iox2_domain.specs.Shows.{Shows};
 ghost use Rattle.iox2_c.specs.Boxed.{Knows};
-ghost use Rattle.iox2_c.specs.Settings.{config_size, invalid_setting, publisher_options_size, publisher_settings, settings_of, subscriber_options_size, subscriber_settings};
+ghost use Rattle.iox2_c.specs.Settings.{config_size, invalid_setting, publisher_options_size, settings_of_options, settings_of, subscriber_options_size, subscriber_settings};
 ghost use Rattle.iox2_c.specs.Codes.{first_setting_code, worst_case_too_large};
 
 use crate::calls::questions;
@@ -55,7 +55,7 @@ pub extern "C" fn iox2ps_publisher_options_of_sized(
 )
     ensures known { config.now.struct_size ≡ config_size → struct_size ≡ publisher_options_size → (options.new).struct_size ≡ publisher_options_size }
     ensures settings { config.now.struct_size ≡ config_size → struct_size ≡ publisher_options_size
-        → publisher_settings (settings_of config.now) options.new ≡ record (default_publisher_settings (settings_of config.now)) { initial_max_slice_len = config.now.payload_size } }
+        → settings_of_options (settings_of config.now) options.new ≡ record (default_publisher_settings (settings_of config.now)) { initial_max_slice_len = config.now.payload_size } }
     ensures unknown { (config.now.struct_size ≢ config_size) ⊎ (struct_size ≢ publisher_options_size) → options.new ≡ record (options.old) { struct_size = 0 } }
 {
     if config.struct_size == CONFIG_SIZE && struct_size == PUBLISHER_OPTIONS_SIZE {

@@ -3,7 +3,7 @@ ghost use Rattle.std.specs.Prelude.{ℕ, List, length, ◌≡◌, ◌<◌, ◌�
 ghost use Rattle.iox2_pubsub.specs.Live.{A_loan, IsLoanKey};
 ghost use Rattle.iox2_pubsub.specs.Slices.{HasValues};
 ghost use Rattle.iox2_c.specs.Boxed.{Becomes, HoldsOn, Knows, KnowsNo};
-ghost use Rattle.iox2_c.specs.Calls.{IsOut, RefusesLoan};
+ghost use Rattle.iox2_c.specs.Calls.{IsOut, IsRefusedLoan};
 ghost use Rattle.iox2_c.specs.Numbers.{named_loan, wide};
 ghost use Rattle.iox2_c.specs.Steps.{Discards};
 
@@ -19,7 +19,7 @@ pub extern "C" fn iox2ps_loan_discard(domain: &mut DomainBox, loan: &LoanNumbers
     ensures out { result ≡ 0 → Knows (λ kept. IsOut kept (named_loan loan.now)) domain.old.service }
     ensures discards { result ≡ 0 → Becomes (λ old new. Discards old new (wide (loan.now).number)) domain.old.service domain.new.service }
     ensures spent { result ≡ 0 → KnowsNo (λ kept. IsLoanKey kept (named_loan loan.now)) domain.new.service }
-    ensures why { 1 < result → Knows (λ kept. RefusesLoan kept (named_loan loan.now) result) domain.old.service }
+    ensures why { 1 < result → Knows (λ kept. IsRefusedLoan kept (named_loan loan.now) result) domain.old.service }
     ensures refused { 0 < result → domain.new.service ≡ domain.old.service }
     ensures stays { HoldsOn (A_loan (wide (loan.now).number)) domain.old.service domain.new.service }
 {
@@ -39,7 +39,7 @@ pub extern "C" fn iox2ps_loan_payload(
 ) -> u32
     ensures no_domain { (result ≡ 1) ↔ (domain.old.service ≡ None) }
     ensures out { result ≡ 0 → Knows (λ kept. IsOut kept (named_loan loan.now)) domain.old.service }
-    ensures why { 1 < result → Knows (λ kept. RefusesLoan kept (named_loan loan.now) result) domain.old.service }
+    ensures why { 1 < result → Knows (λ kept. IsRefusedLoan kept (named_loan loan.now) result) domain.old.service }
     ensures length { result ≡ 0 → Knows (λ kept. (values : List ℕ) → HasValues kept (wide (loan.now).number) values → len.new ≡ length values) domain.old.service }
     ensures same { 0 < result → len.new ≡ len.old }
     ensures unchanged { domain.new.service ≡ domain.old.service }

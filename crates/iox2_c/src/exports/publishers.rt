@@ -3,11 +3,11 @@ ghost use Rattle.std.specs.Prelude.{◌≡◌, ◌<◌, ◌↔◌, None, ◌≢�
 ghost use Rattle.iox2_machine.specs.declared.errors.LoanError.{LoanError};
 ghost use Rattle.iox2_machine.specs.declared.errors.PublisherCreateError.{PublisherCreateError};
 ghost use Rattle.iox2_pubsub.specs.Live.{A_loan, A_publisher, IsNewIn, IsPublisherKey, No_item};
-ghost use Rattle.iox2_c.specs.Boxed.{Becomes, HoldsOn, Knows, KnowsNo, Turns};
-ghost use Rattle.iox2_c.specs.Calls.{IsOut, IsReady, RefusesPublisher};
+ghost use Rattle.iox2_c.specs.Boxed.{Becomes, HoldsOn, Knows, KnowsNo, HoldsFromOldToNew};
+ghost use Rattle.iox2_c.specs.Calls.{IsOut, IsReadyKey, RefusesPublisher};
 ghost use Rattle.iox2_c.specs.Codes.{first_setting_code, loan_code, publisher_code};
 ghost use Rattle.iox2_c.specs.Numbers.{named_loan, named_publisher, wide};
-ghost use Rattle.iox2_c.specs.Settings.{ReadsSettings, invalid_publisher_option, plain_publisher_settings, publisher_settings};
+ghost use Rattle.iox2_c.specs.Settings.{ReadsSettings, invalid_publisher_option, plain_publisher_settings, settings_of_options};
 ghost use Rattle.iox2_c.specs.Steps.{ClosesPublisher, CreatesPublisher, Lends, LendsUninit};
 
 use crate::calls::lending::{self, Unspecified, Zeros};
@@ -24,9 +24,9 @@ pub extern "C" fn iox2ps_publisher_create(
     publisher: &mut PublisherNumbers,
 ) -> u32
     ensures no_domain { (result ≡ 1) ↔ (domain.old.service ≡ None) }
-    ensures creates { result ≡ 0 → Turns (λ old new. CreatesPublisher old.domain new.domain (plain_publisher_settings old) (Ok (wide (publisher.new).id)) × ReadsSettings publisher.new (plain_publisher_settings old)) domain.old.service domain.new.service }
-    ensures errors { 1 < result → (error : PublisherCreateError) × (result ≡ publisher_code error) × Turns (λ old new. CreatesPublisher old.domain new.domain (plain_publisher_settings old) (Err error)) domain.old.service domain.new.service }
-    ensures ready { result ≡ 0 → Knows (λ kept. IsReady kept (named_publisher publisher.new)) domain.new.service }
+    ensures creates { result ≡ 0 → HoldsFromOldToNew (λ old new. CreatesPublisher old.domain new.domain (plain_publisher_settings old) (Ok (wide (publisher.new).id)) × ReadsSettings publisher.new (plain_publisher_settings old)) domain.old.service domain.new.service }
+    ensures errors { 1 < result → (error : PublisherCreateError) × (result ≡ publisher_code error) × HoldsFromOldToNew (λ old new. CreatesPublisher old.domain new.domain (plain_publisher_settings old) (Err error)) domain.old.service domain.new.service }
+    ensures ready { result ≡ 0 → Knows (λ kept. IsReadyKey kept (named_publisher publisher.new)) domain.new.service }
     ensures new { result ≡ 0 → Knows (λ kept. IsNewIn kept (A_publisher (wide (publisher.new).id))) domain.old.service }
     ensures same { 0 < result → publisher.new ≡ publisher.old }
     ensures stays { HoldsOn No_item domain.old.service domain.new.service }
@@ -45,13 +45,13 @@ pub extern "C" fn iox2ps_publisher_create_with(
     publisher: &mut PublisherNumbers,
 ) -> u32
     ensures no_domain { (result ≡ 1) ↔ (domain.old.service ≡ None) }
-    ensures creates { result ≡ 0 → Turns (λ old new. CreatesPublisher old.domain new.domain (publisher_settings (old.domain).config options.now) (Ok (wide (publisher.new).id)) × ReadsSettings publisher.new (publisher_settings (old.domain).config options.now)) domain.old.service domain.new.service }
+    ensures creates { result ≡ 0 → HoldsFromOldToNew (λ old new. CreatesPublisher old.domain new.domain (settings_of_options (old.domain).config options.now) (Ok (wide (publisher.new).id)) × ReadsSettings publisher.new (settings_of_options (old.domain).config options.now)) domain.old.service domain.new.service }
     ensures errors { 1 < result → result < first_setting_code → (error : PublisherCreateError) × (result ≡ publisher_code error)
-        × Turns (λ old new. CreatesPublisher old.domain new.domain (publisher_settings (old.domain).config options.now) (Err error)) domain.old.service domain.new.service }
+        × HoldsFromOldToNew (λ old new. CreatesPublisher old.domain new.domain (settings_of_options (old.domain).config options.now) (Err error)) domain.old.service domain.new.service }
     ensures valid { result ≢ 1 → result < first_setting_code → IfSome domain.old.service (λ it. invalid_publisher_option it.payload_alignment options.now ≡ 0) }
     ensures invalid { first_setting_code ≤ result → IfSome domain.old.service (λ it. result ≡ invalid_publisher_option it.payload_alignment options.now) }
     ensures refused { (result ≡ 1) ⊎ (first_setting_code ≤ result) → domain.new.service ≡ domain.old.service }
-    ensures ready { result ≡ 0 → Knows (λ kept. IsReady kept (named_publisher publisher.new)) domain.new.service }
+    ensures ready { result ≡ 0 → Knows (λ kept. IsReadyKey kept (named_publisher publisher.new)) domain.new.service }
     ensures new { result ≡ 0 → Knows (λ kept. IsNewIn kept (A_publisher (wide (publisher.new).id))) domain.old.service }
     ensures same { 0 < result → publisher.new ≡ publisher.old }
     ensures stays { HoldsOn No_item domain.old.service domain.new.service }
@@ -69,7 +69,7 @@ pub extern "C" fn iox2ps_publisher_close(
     publisher: &PublisherNumbers,
 ) -> u32
     ensures no_domain { (result ≡ 1) ↔ (domain.old.service ≡ None) }
-    ensures ready { result ≡ 0 → Knows (λ kept. IsReady kept (named_publisher publisher.now)) domain.old.service }
+    ensures ready { result ≡ 0 → Knows (λ kept. IsReadyKey kept (named_publisher publisher.now)) domain.old.service }
     ensures closed { result ≡ 0 → Becomes (λ old new. ClosesPublisher old new (wide (publisher.now).id)) domain.old.service domain.new.service }
     ensures spent { result ≡ 0 → KnowsNo (λ kept. IsPublisherKey kept (named_publisher publisher.now)) domain.new.service }
     ensures why { 1 < result → Knows (λ kept. RefusesPublisher kept (named_publisher publisher.now) result) domain.old.service }

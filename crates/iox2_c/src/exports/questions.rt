@@ -15,7 +15,7 @@ ghost use Rattle.iox2_c.specs.Numbers.{named_loan, named_publisher, named_subscr
 ghost use Rattle.iox2_c.specs.Settings.{config_size, settings_in, settings_of};
 ghost use Rattle.iox2_c.specs.Texts.{text_numbered};
 ghost use Rattle.iox2_c.specs.Warnings.{TellsOf};
-ghost use Rattle.iox2_c.specs.Steps.{Asks, UpdatesPublisher, UpdatesSubscriber};
+ghost use Rattle.iox2_c.specs.Steps.{Asks, PublisherUpdates, SubscriberUpdates};
 
 use crate::calls::questions;
 use crate::config::Config;
@@ -52,7 +52,7 @@ pub extern "C" fn iox2ps_publisher_update_connections(
     publisher: &PublisherNumbers,
 ) -> u32
     ensures no_domain { (result ≡ 1) ↔ (domain.old.service ≡ None) }
-    ensures updates { (result ≡ 0) ⊎ (10 ≤ result) → (updated : Result (Unit {0}) ConnectionFailure) × (result ≡ code_of failure_code updated) × Becomes (λ old new. UpdatesPublisher old new (wide (publisher.now).id) updated) domain.old.service domain.new.service }
+    ensures updates { (result ≡ 0) ⊎ (10 ≤ result) → (updated : Result (Unit {0}) ConnectionFailure) × (result ≡ code_of failure_code updated) × Becomes (λ old new. PublisherUpdates old new (wide (publisher.now).id) updated) domain.old.service domain.new.service }
     ensures why { 1 < result → result < 10 → Knows (λ kept. RefusesPublisher kept (named_publisher publisher.now) result) domain.old.service }
     ensures refused { 0 < result → result < 10 → domain.new.service ≡ domain.old.service }
     ensures stays { HoldsOn No_item domain.old.service domain.new.service }
@@ -70,7 +70,7 @@ pub extern "C" fn iox2ps_subscriber_update_connections(
     subscriber: &SubscriberNumbers,
 ) -> u32
     ensures no_domain { (result ≡ 1) ↔ (domain.old.service ≡ None) }
-    ensures updates { (result ≡ 0) ⊎ (2 < result) → (updated : Result (Unit {0}) ConnectionFailure) × (result ≡ code_of failure_code updated) × Becomes (λ old new. UpdatesSubscriber old new (wide (subscriber.now).id) updated) domain.old.service domain.new.service }
+    ensures updates { (result ≡ 0) ⊎ (2 < result) → (updated : Result (Unit {0}) ConnectionFailure) × (result ≡ code_of failure_code updated) × Becomes (λ old new. SubscriberUpdates old new (wide (subscriber.now).id) updated) domain.old.service domain.new.service }
     ensures not_live { result ≡ 2 → KnowsNo (λ kept. IsSubscriberKey kept (named_subscriber subscriber.now)) domain.old.service }
     ensures refused { result ≡ 2 → domain.new.service ≡ domain.old.service }
     ensures stays { HoldsOn No_item domain.old.service domain.new.service }

@@ -5,7 +5,7 @@ ghost use Rattle.iox2_pubsub.specs.Live.{A_sample, IsSampleKey, SampleHasHeader}
 ghost use Rattle.iox2_pubsub.specs.Slices.{SampleHasValues};
 ghost use Rattle.iox2_c.specs.Boxed.{Becomes, HoldsOn, Knows, KnowsNo};
 ghost use Rattle.iox2_c.specs.Numbers.{IsHeader, named_sample, wide};
-ghost use Rattle.iox2_c.specs.Steps.{Releases};
+ghost use Rattle.iox2_c.specs.Steps.{SubscriberReleases};
 
 use crate::calls::samples;
 use crate::domain_box::DomainBox;
@@ -89,7 +89,7 @@ pub extern "C" fn iox2ps_sample_release(domain: &mut DomainBox, sample: &SampleN
     ensures code { result < 3 }
     ensures not_live { result ≡ 2 → KnowsNo (λ kept. IsSampleKey kept (named_sample sample.now)) domain.old.service }
     ensures live { result ≡ 0 → Knows (λ kept. IsSampleKey kept (named_sample sample.now)) domain.old.service }
-    ensures releases { result ≡ 0 → Becomes (λ old new. Releases old new (wide (sample.now).subscriber) (wide (sample.now).number)) domain.old.service domain.new.service }
+    ensures releases { result ≡ 0 → Becomes (λ old new. SubscriberReleases old new (wide (sample.now).subscriber) (wide (sample.now).number)) domain.old.service domain.new.service }
     ensures spent { KnowsNo (λ kept. IsSampleKey kept (named_sample sample.now)) domain.new.service }
     ensures refused { 0 < result → domain.new.service ≡ domain.old.service }
     ensures stays { HoldsOn (A_sample (wide (sample.now).subscriber) (wide (sample.now).number)) domain.old.service domain.new.service }

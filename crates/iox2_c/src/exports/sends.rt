@@ -8,7 +8,7 @@ ghost use Rattle.iox2_c.specs.Boxed.{Becomes, HoldsOn, Knows, KnowsNo};
 ghost use Rattle.iox2_c.specs.Calls.{RefusesPublisher, RefusesSend};
 ghost use Rattle.iox2_c.specs.Codes.{receivers_of, sent_code};
 ghost use Rattle.iox2_c.specs.Numbers.{named_loan, named_publisher, wide};
-ghost use Rattle.iox2_c.specs.Steps.{GivesUp, Retries, SendsCopy, SendsLoan};
+ghost use Rattle.iox2_c.specs.Steps.{BlockedSendGivesUp, BlockedSendRetries, SendsBytes, SendsNumbered};
 
 use crate::calls::sends;
 use crate::domain_box::DomainBox;
@@ -25,7 +25,7 @@ pub extern "C" fn iox2ps_loan_send_counted(
 ) -> u32
     ensures no_domain { (result ≡ 1) ↔ (domain.old.service ≡ None) }
     ensures sent { (result ≡ 0) ⊎ ((2 < result) × (result ≢ 7)) → (outcome : Result SendOutcome SendError) × (result ≡ sent_code outcome) × (receivers.new ≡ receivers_of receivers.old outcome)
-        × Becomes (λ old new. SendsLoan old new (wide (loan.now).number) outcome) domain.old.service domain.new.service }
+        × Becomes (λ old new. SendsNumbered old new (wide (loan.now).number) outcome) domain.old.service domain.new.service }
     ensures why { (result ≡ 2) ⊎ (result ≡ 7) → Knows (λ kept. RefusesSend kept (named_loan loan.now) result) domain.old.service }
     ensures refused { (result ≡ 2) ⊎ (result ≡ 7) → domain.new.service ≡ domain.old.service }
     ensures waits { result ≡ 6 → Knows (λ kept. IsBlockedKey kept (named_loan blocked.new)) domain.new.service }
@@ -52,7 +52,7 @@ pub extern "C" fn iox2ps_publisher_send_copy_counted(
 ) -> u32
     ensures no_domain { (result ≡ 1) ↔ (domain.old.service ≡ None) }
     ensures sent { (result ≡ 0) ⊎ ((2 < result) × (result ≢ 7)) → (outcome : Result SendOutcome SendError) × (result ≡ sent_code outcome) × (receivers.new ≡ receivers_of receivers.old outcome)
-        × Becomes (λ old new. SendsCopy old new (wide (publisher.now).id) bytes.now outcome) domain.old.service domain.new.service }
+        × Becomes (λ old new. SendsBytes old new (wide (publisher.now).id) bytes.now outcome) domain.old.service domain.new.service }
     ensures why { (result ≡ 2) ⊎ (result ≡ 7) → Knows (λ kept. RefusesPublisher kept (named_publisher publisher.now) result) domain.old.service }
     ensures refused { (result ≡ 2) ⊎ (result ≡ 7) → domain.new.service ≡ domain.old.service }
     ensures waits { result ≡ 6 → Knows (λ kept. IsBlockedKey kept (named_loan blocked.new)) domain.new.service }
@@ -76,7 +76,7 @@ pub extern "C" fn iox2ps_blocked_retry_counted(
 ) -> u32
     ensures no_domain { (result ≡ 1) ↔ (domain.old.service ≡ None) }
     ensures ends { (result ≡ 0) ⊎ (2 < result) → (outcome : Result SendOutcome SendError) × (result ≡ sent_code outcome) × (receivers.new ≡ receivers_of receivers.old outcome)
-        × Becomes (λ old new. Retries old new (wide (blocked.now).publisher) elapsed outcome) domain.old.service domain.new.service }
+        × Becomes (λ old new. BlockedSendRetries old new (wide (blocked.now).publisher) elapsed outcome) domain.old.service domain.new.service }
     ensures not_live { result ≡ 2 → KnowsNo (λ kept. IsBlockedKey kept (named_loan blocked.now)) domain.old.service }
     ensures refused { result ≡ 2 → domain.new.service ≡ domain.old.service }
     ensures same_count { (result ≡ 1) ⊎ (result ≡ 2) → receivers.new ≡ receivers.old }
@@ -97,7 +97,7 @@ pub extern "C" fn iox2ps_blocked_give_up_counted(
 ) -> u32
     ensures no_domain { (result ≡ 1) ↔ (domain.old.service ≡ None) }
     ensures ends { (result ≡ 0) ⊎ (2 < result) → (outcome : Result SendOutcome SendError) × (result ≡ sent_code outcome) × (receivers.new ≡ receivers_of receivers.old outcome)
-        × Becomes (λ old new. GivesUp old new (wide (blocked.now).publisher) outcome) domain.old.service domain.new.service }
+        × Becomes (λ old new. BlockedSendGivesUp old new (wide (blocked.now).publisher) outcome) domain.old.service domain.new.service }
     ensures not_live { result ≡ 2 → KnowsNo (λ kept. IsBlockedKey kept (named_loan blocked.now)) domain.old.service }
     ensures refused { result ≡ 2 → domain.new.service ≡ domain.old.service }
     ensures same_count { (result ≡ 1) ⊎ (result ≡ 2) → receivers.new ≡ receivers.old }

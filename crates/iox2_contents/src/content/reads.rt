@@ -1,6 +1,6 @@
 //! What a slot shows.
 ghost use Rattle.std.specs.Prelude.{◌≡◌, ◌<◌, ◌≤◌, length, replicate, slice_get, false, None, Some};
-ghost use Rattle.iox2_contents.specs.SlotStates.{has_list, waits};
+ghost use Rattle.iox2_contents.specs.SlotStates.{slot_has_list, slot_waits};
 
 use crate::content::Content;
 use crate::payload::Payload;
@@ -15,7 +15,7 @@ impl<T, U> Content<T, U> {
 
     /// Whether the cells have one of their publisher's lists.
     pub(crate) fn has_list(&self) -> bool
-        ensures { result ≡ has_list self.now }
+        ensures { result ≡ slot_has_list self.now }
     {
         match &self.payload {
             Payload::Elements(elements) => elements.cells.has_list(),
@@ -25,7 +25,7 @@ impl<T, U> Content<T, U> {
 
     /// Whether there are cells that need one of their publisher's lists before they can be written.
     pub(crate) fn waits(&self) -> bool
-        ensures { result ≡ waits self.now }
+        ensures { result ≡ slot_waits self.now }
     {
         match &self.payload {
             Payload::Elements(elements) => elements.cells.waits(),

@@ -1,17 +1,17 @@
 //! What may be changed in a slot through a reference.
 ghost use Rattle.std.specs.Prelude.{◌≡◌, ◌<◌, length, slice_get, true, false, Some};
 ghost use Rattle.std.specs.Borrow.{sem};
-ghost use Rattle.iox2_contents.specs.SlotStates.{waits};
+ghost use Rattle.iox2_contents.specs.SlotStates.{slot_waits};
 
 use crate::content::Content;
 use crate::payload::Payload;
 
 impl<T, U> Content<T, U> {
-    ghost use Rattle.iox2_contents.specs.ContentLends.{LendsCell, LendsCells, LendsValue, LendsValues, LendsUserHeader};
+    ghost use Rattle.iox2_contents.specs.ContentLends.{SlotLendsCell, SlotLendsCells, LendsValue, LendsValues, SlotLendsUserHeader};
 
     /// The user header, to be changed.
     pub(crate) fn user_header_mut(&mut self) -> &mut U
-        ensures* writes_back { sem 𝓛 (LendsUserHeader T.row U.row self.entry result) }
+        ensures* writes_back { sem 𝓛 (SlotLendsUserHeader T.row U.row self.entry result) }
         ensures value { result.now ≡ self.old.content.user_header }
     {
         &mut self.user_header
@@ -27,8 +27,8 @@ impl<T, U> Content<T, U> {
     /// The first cell of a loan that isn't written, to be changed. It doesn't wait for a list.
     pub(crate) fn cell_mut(&mut self) -> &mut Option<T>
         requires first { 0 < length self.old.content.cells }
-        requires ready { waits self.old ≡ false }
-        ensures* writes_back { sem 𝓛 (LendsCell T.row U.row self.entry result) }
+        requires ready { slot_waits self.old ≡ false }
+        ensures* writes_back { sem 𝓛 (SlotLendsCell T.row U.row self.entry result) }
         ensures value { slice_get self.old.content.cells 0 ≡ Some result.now }
     {
         if self.is_in_place() {
@@ -41,7 +41,7 @@ impl<T, U> Content<T, U> {
     fn placed_cell_mut(&mut self) -> &mut Option<T>
         requires first { 0 < length self.old.content.cells }
         requires in_place { self.old.content.is_in_place ≡ true }
-        ensures* writes_back { sem 𝓛 (LendsCell T.row U.row self.entry result) }
+        ensures* writes_back { sem 𝓛 (SlotLendsCell T.row U.row self.entry result) }
         ensures value { slice_get self.old.content.cells 0 ≡ Some result.now }
     {
         match &mut self.payload {
@@ -54,8 +54,8 @@ impl<T, U> Content<T, U> {
     fn listed_cell_mut(&mut self) -> &mut Option<T>
         requires first { 0 < length self.old.content.cells }
         requires in_lists { self.old.content.is_in_place ≡ false }
-        requires ready { waits self.old ≡ false }
-        ensures* writes_back { sem 𝓛 (LendsCell T.row U.row self.entry result) }
+        requires ready { slot_waits self.old ≡ false }
+        ensures* writes_back { sem 𝓛 (SlotLendsCell T.row U.row self.entry result) }
         ensures value { slice_get self.old.content.cells 0 ≡ Some result.now }
     {
         match &mut self.payload {
@@ -67,8 +67,8 @@ impl<T, U> Content<T, U> {
     /// The cells, to be changed, of a publisher that keeps lists. They don't wait for one.
     pub(crate) fn cells_mut(&mut self) -> &mut [Option<T>]
         requires lists { 0 < self.old.content.lists }
-        requires ready { waits self.old ≡ false }
-        ensures* writes_back { sem 𝓛 (LendsCells T.row U.row self.entry result) }
+        requires ready { slot_waits self.old ≡ false }
+        ensures* writes_back { sem 𝓛 (SlotLendsCells T.row U.row self.entry result) }
         ensures value { result.now ≡ self.old.content.cells }
     {
         match &mut self.payload {

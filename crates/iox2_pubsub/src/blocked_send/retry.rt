@@ -1,6 +1,6 @@
 //! A blocked send is tried again, or given up.
 ghost use Rattle.std.specs.Prelude.{◌≡◌, ◌≤◌, ◌<◌, ◌⊎◌, IfOk, List, ⊤};
-ghost use Rattle.iox2_pubsub.specs.BlockedSends.{AreEach, GoesOn, IsLeftBehind, IsNext, IsNotNext, IsPastOrRoomy, Resumes, receivers_ahead};
+ghost use Rattle.iox2_pubsub.specs.BlockedSends.{AreEach, BlockedSendGoesOn, IsLeftBehind, IsNext, IsNotNext, IsPastOrRoomy, Resumes, receivers_ahead};
 ghost use Rattle.iox2_pubsub.specs.SendCalls.{IfBlocked, IsDelivered, result_of_send};
 
 use crate::blocked_send::BlockedSend;
@@ -43,7 +43,7 @@ impl BlockedSend {
             → (s' : State T U) × Shows domain.new m s' × Retry (answers_of F.allows G.allows (domain.old.boxes).publishers) s (blocked_sender self) b elapsed s' (result_of_send result) }
         ensures no_more { IfOk result (λ outcome. IfBlocked outcome (λ blocked. receivers_ahead domain.new blocked ≤ receivers_ahead domain.old self)) }
         ensures consistent { IsConsistent domain.old }
-        ensures goes_on { GoesOn self result domain.old domain.new }
+        ensures goes_on { BlockedSendGoesOn self result domain.old domain.new }
         ensures full { (target subscriber : Subscriber) (values : List T) → IsPending domain.old self target values → IsConnected domain.old (blocked_sender self) subscriber
             → IfOk result (λ outcome. IfBlocked outcome (λ again. IsNext domain.new again subscriber → IsFull domain.old (blocked_sender self) subscriber)) }
         ensures roomy { (target : Subscriber) (values : List T) (subscribers : List Subscriber) → IsPending domain.old self target values → AreAllSubscribers domain.old subscribers
@@ -71,7 +71,7 @@ impl BlockedSend {
             → (s' : State T U) × Shows domain.new m s' × GiveUp (answers_of F.allows G.allows (domain.old.boxes).publishers) s (blocked_sender self) b s' (result_of_send result) }
         ensures fewer { IfOk result (λ outcome. IfBlocked outcome (λ blocked. receivers_ahead domain.new blocked < receivers_ahead domain.old self)) }
         ensures consistent { IsConsistent domain.old }
-        ensures goes_on { GoesOn self result domain.old domain.new }
+        ensures goes_on { BlockedSendGoesOn self result domain.old domain.new }
         ensures full { (target subscriber : Subscriber) (values : List T) → IsPending domain.old self target values → IsConnected domain.old (blocked_sender self) subscriber
             → IfOk result (λ outcome. IfBlocked outcome (λ again. IsNext domain.new again subscriber → IsFull domain.old (blocked_sender self) subscriber)) }
         ensures roomy { (target : Subscriber) (values : List T) (subscribers : List Subscriber) → IsPending domain.old self target values → AreAllSubscribers domain.old subscribers

@@ -16,11 +16,11 @@ impl<T: Drop, U: Default + Drop, F: BackpressureFn, G: DegradationFn> Domain<T, 
     ghost use Rattle.iox2_machine.specs.declared.allocation.AllocationStrategy.TheVariants.{Static};
     ghost use Rattle.iox2_pubsub.specs.Live.{HasMark, IsLiveSample, IsLiveSubscriber, IsLoanKey, IsPlaced, IsPlacedPublisher, IsPublisherKey, IsReadyPublisher, IsSampleKey, IsUnblocked, IsUpToDate};
     ghost use Rattle.iox2_pubsub.specs.LoansLeft.{GrowsBy, HasNumbersLeft};
-    ghost use Rattle.iox2_pubsub.specs.Parts.{LenderIsPlaced, loan_named, publisher_named, publisher_with, sample_named, sample_parts, subscriber_with};
+    ghost use Rattle.iox2_pubsub.specs.Parts.{LenderIsPlaced, loan_named, publisher_named, publisher_of_parts, sample_named, sample_parts, subscriber_with};
 
     // Whether the publisher with these numbers wasn't closed, and stands at the place that they name.
     fn is_publisher_at_hint(&self, parts: &PublisherParts) -> bool
-        ensures { IsTrue result ↔ (IsPublisherKey self.now (publisher_named parts.now) × IsPlacedPublisher self.now (publisher_with parts.now)) }
+        ensures { IsTrue result ↔ (IsPublisherKey self.now (publisher_named parts.now) × IsPlacedPublisher self.now (publisher_of_parts parts.now)) }
     {
         if parts.service_id != self.state.config().service_id {
             return false;
@@ -55,8 +55,8 @@ impl<T: Drop, U: Default + Drop, F: BackpressureFn, G: DegradationFn> Domain<T, 
     /// of elements at once if it has a free slot: its memory doesn't grow, and nothing refuses the loan.
     /// This library's own.
     pub fn lends_at_once(&self, parts: &PublisherParts, len: usize) -> bool
-        ensures ready { IsTrue result → IsReadyPublisher self.now (publisher_with parts.now) }
-        ensures fixed { IsTrue result → GrowsBy self.now (publisher_with parts.now) Static }
+        ensures ready { IsTrue result → IsReadyPublisher self.now (publisher_of_parts parts.now) }
+        ensures fixed { IsTrue result → GrowsBy self.now (publisher_of_parts parts.now) Static }
         ensures numbers { IsTrue result → HasNumbersLeft self.now 1 }
     {
         self.is_publisher_at_hint(parts) && lends_at_once(&self.state, parts.place, len)

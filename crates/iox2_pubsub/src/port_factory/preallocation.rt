@@ -47,14 +47,14 @@ pub(crate) struct SlotSettings<O> {
 
 impl<P: Fn(usize) -> usize + Drop> SlotSettings<PreallocatedSamplesOverride<P>> {
     ghost use Rattle.iox2_machine.specs.machine.Limits.{worst_case};
-    ghost use Rattle.iox2_pubsub.specs.Factories.{AsksFor};
+    ghost use Rattle.iox2_pubsub.specs.Factories.{AsksForSlots};
 
     /// How the slots of a publisher with this number of loans are allocated. The override is asked how
     /// many there should be, but not if the worst case doesn't fit `usize`.
     pub(crate) fn ask(&self, config: &ServiceConfig, loans: usize) -> SegmentOptions
         requires { P.IsAlwaysCallable self.now.preallocated.callback }
         ensures allocation { result.allocation ≡ self.now.allocation }
-        ensures asked { AsksFor (P.post self.now.preallocated.callback) (worst_case config.now loans) result.asked_slots }
+        ensures asked { AsksForSlots (P.post self.now.preallocated.callback) (worst_case config.now loans) result.asked_slots }
     {
         let asked_slots = match worst_case_slots(config, loans) {
             Some(worst) => Some((self.preallocated.callback)(worst)),

@@ -9,7 +9,7 @@ ghost use Rattle.iox2_machine.specs.machine.State.{State, Messages};
 ghost use Rattle.iox2_pubsub.specs.Leaves.{LeavesNoFewer};
 ghost use Rattle.iox2_pubsub.specs.Live.{WaitingStays};
 ghost use Rattle.iox2_pubsub.specs.LoansLeft.{HasLoansLeft, LendsFirst};
-ghost use Rattle.iox2_pubsub.specs.MadePublishers.{IsMade};
+ghost use Rattle.iox2_pubsub.specs.MadePublishers.{IsMadePublisher};
 ghost use Rattle.iox2_domain.specs.NewPublisher.{plain_publisher};
 ghost use Rattle.iox2_connections.specs.Handlers.{marks_of};
 ghost use Rattle.iox2_ports.specs.Handlers.{custom_box};
@@ -272,7 +272,7 @@ impl<F: BackpressureFn, G: DegradationFn, H: PortHandle<Publisher>> PortFactoryP
             × MatchResult result
             (λ publisher. (publisher_id (H.as_port publisher) ≡ s.next_port) × CreatePublisher (answers_of F.allows G.allows (domain.new.boxes).publishers) s self.settings s' None)
             (λ e. CreatePublisher (answers_of F.allows G.allows (domain.new.boxes).publishers) s self.settings s' (Some e)) }
-        ensures made { IfOk result (λ publisher. IsMade self.settings self.box self.degradation_box (H.as_port publisher) domain.old domain.new) }
+        ensures made { IfOk result (λ publisher. IsMadePublisher self.settings self.box self.degradation_box (H.as_port publisher) domain.old domain.new) }
         ensures left { LendsFirst (domain.old.config) self.settings → IfOk result (λ publisher. HasLoansLeft domain.new (H.as_port publisher) self.settings.max_loaned_samples) }
         ensures refused { OnErr result (WaitingStays domain.old domain.new) }
         ensures leaves { LeavesNoFewer domain.old domain.new }
@@ -303,7 +303,7 @@ pub(crate) fn create_plain<T: Drop, U: Default + Drop, F: BackpressureFn, G: Deg
         × MatchResult result
         (λ publisher. (publisher_id publisher ≡ s.next_port) × CreatePublisher (answers_of F.allows G.allows (domain.new.boxes).publishers) s (settings_with given.now (marks_of handler) segments) s' None)
         (λ e. CreatePublisher (answers_of F.allows G.allows (domain.new.boxes).publishers) s (settings_with given.now (marks_of handler) segments) s' (Some e)) }
-    ensures made { IfOk result (λ publisher. IsMade (settings_with given.now (marks_of handler) segments) (custom_box handler) degradation publisher domain.old domain.new) }
+    ensures made { IfOk result (λ publisher. IsMadePublisher (settings_with given.now (marks_of handler) segments) (custom_box handler) degradation publisher domain.old domain.new) }
     ensures left { worst_case (domain.old.config) given.now.max_loaned_samples ≤ slots_for (domain.old.config) (settings_with given.now (marks_of handler) segments) → LendsFirst (domain.old.config) (settings_with given.now (marks_of handler) segments) → IfOk result (λ publisher. HasLoansLeft domain.new publisher given.now.max_loaned_samples) }
     ensures refused { OnErr result (WaitingStays domain.old domain.new) }
     ensures leaves { LeavesNoFewer domain.old domain.new }

@@ -10,7 +10,7 @@ use iox2_messages::loan;
 impl Publisher {
     ghost use Rattle.iox2_machine.specs.declared.service_config.TypeVariant.TheVariants.{FixedSize};
     ghost use Rattle.iox2_domain.specs.Lending.{LoanCall};
-    ghost use Rattle.iox2_pubsub.specs.GrantedLoans.{IsLentUnwritten, IsUnfilled};
+    ghost use Rattle.iox2_pubsub.specs.GrantedLoans.{IsLentUnwritten, HasOnlyUnwrittenCells};
     ghost use Rattle.iox2_pubsub.specs.Handles.{max_slice_len_of, publisher_id};
     ghost use Rattle.iox2_pubsub.specs.Leaves.{LeavesLending};
     ghost use Rattle.iox2_pubsub.specs.Live.{IsConsistent, IsReadyPublisher, IsSingleValued};
@@ -70,7 +70,7 @@ impl Publisher {
         ensures granted { (loans numbers : ℕ) → HasLoansLeft domain.old self.now (loans + 1) → HasNumbersLeft domain.old (numbers + 1)
             → (checks_length ≡ true → len ≤ max_slice_len_of self.now) → IsOk result }
         ensures loan { IfOk result (λ loan. IsLentUnwritten self.now loan domain.old domain.new) }
-        ensures unfilled { IfOk result (λ loan. IsUnfilled self.now loan len (len * (domain.old.config).units_per_element) domain.old domain.new) }
+        ensures unfilled { IfOk result (λ loan. HasOnlyUnwrittenCells self.now loan len (len * (domain.old.config).units_per_element) domain.old domain.new) }
         ensures refused { OnErr result (LoansLeftStay domain.old domain.new) }
         ensures leaves { LeavesLending self.now domain.old domain.new }
     {

@@ -12,7 +12,7 @@ impl Publisher {
     ghost use Rattle.iox2_machine.specs.machine.State.{State, Messages};
     ghost use Rattle.iox2_domain.specs.Boxes.{answers_of};
     ghost use Rattle.iox2_domain.specs.Shows.{Shows};
-    ghost use Rattle.iox2_pubsub.specs.Live.{A_blocked_send, AddAtMost, AllFrom, AreAllSlices, HasItsBuffer, IsBlockedSend, IsConnected, IsConsistent, IsFull, IsReadyPublisher, IsServed, IsServedOrPending, IsSingleValued, NeverFails, NeverWaits, OthersSend, StaysBut, UpToDateStay, blocked_key, blocked_send, lender_key, payloads, publisher_key, waiting};
+    ghost use Rattle.iox2_pubsub.specs.Live.{A_blocked_send, AddAtMost, AllFrom, AreAllSlices, HasItsBuffer, IsBlockedSend, IsConnected, IsConsistent, IsFull, IsReadyPublisher, IsServed, IsServedOrPending, IsSingleValued, NeverFails, NeverWaits, OthersSend, StaysBut, UpToDateStay, blocked_key, blocked_item, lender_key, payloads, publisher_key, waiting};
     ghost use Rattle.iox2_pubsub.specs.BorrowsLeft.{BorrowsLeftStay};
     ghost use Rattle.iox2_pubsub.specs.Leaves.{Leaves};
     ghost use Rattle.iox2_pubsub.specs.LoansLeft.{HasLoansLeft, HasNumbersLeft, TakesOneLeft};
@@ -21,7 +21,7 @@ impl Publisher {
     ghost use Rattle.iox2_pubsub.specs.Counts.{Counts};
     ghost use Rattle.iox2_pubsub.specs.RoomyPublishers.{HasRoomAlone, HasRoomAtAll};
     ghost use Rattle.iox2_pubsub.specs.SendCalls.{AfterError, FailsCopy, IfBlocked, IsDelivered, spent_by_copy};
-    ghost use Rattle.iox2_pubsub.specs.WrittenLoans.{SendsCopy};
+    ghost use Rattle.iox2_pubsub.specs.WrittenLoans.{SendsValue};
     ghost use Rattle.iox2_pubsub.specs.Handles.{buffer_size_of, publisher_id};
     ghost use Rattle.iox2_pubsub.specs.declared.subscriber.Subscriber.{Subscriber};
 
@@ -38,11 +38,11 @@ impl Publisher {
         requires ready { IsReadyPublisher domain.old self.now }
         requires single_valued { IsSingleValued domain.old }
         ensures sends { (m : Messages T U) (s : State T U) → Shows domain.old m s
-            → (m' : Messages T U) × (s' : State T U) × Shows domain.new m' s' × SendsCopy (answers_of F.allows G.allows (domain.old.boxes).publishers) U.is_default m s (publisher_id self.now) value result m' s' }
+            → (m' : Messages T U) × (s' : State T U) × Shows domain.new m' s' × SendsValue (answers_of F.allows G.allows (domain.old.boxes).publishers) U.is_default m s (publisher_id self.now) value result m' s' }
         ensures delivered { NeverWaits domain.old (publisher_key self.now) → IfOk result IsDelivered }
         ensures consistent { IsConsistent domain.old }
         ensures blocked { IfOk result (λ outcome. IfBlocked outcome (λ blocked. IsBlockedSend domain.new blocked × (lender_key (blocked_key blocked) ≡ publisher_key self.now))) }
-        ensures whose { IfOk result (λ outcome. IfBlocked outcome (λ blocked. blocked_send blocked ≡ A_blocked_send (publisher_id self.now))) }
+        ensures whose { IfOk result (λ outcome. IfBlocked outcome (λ blocked. blocked_item blocked ≡ A_blocked_send (publisher_id self.now))) }
         ensures errors { IfErr result (FailsCopy domain.old self.now) }
         ensures refused { IfErr result (λ error. (reason : LoanError) → error ≡ SendError.LoanError reason → Leaves domain.old domain.new) }
         ensures adds { AddAtMost ((domain.old.config).history_size + 1) domain.old domain.new }

@@ -19,7 +19,7 @@ impl SampleMut {
     ghost use Rattle.iox2_pubsub.specs.Live.{AddAtMost, AllFrom, HasItsBuffer, IsAtConnection, IsConnected, IsServed, IsServedOrPending, IsUnblocked, IsWritten, WaitsAsBefore, payloads_from, waiting, written_key};
     ghost use Rattle.iox2_pubsub.specs.Slices.{HasValues};
     ghost use Rattle.iox2_pubsub.specs.declared.subscriber.Subscriber.{Subscriber};
-    ghost use Rattle.iox2_pubsub.specs.SendCalls.{FailsDelivery, IfBlocked, IsDelivered, SendsToConnection, SpendsLoan, messages_after};
+    ghost use Rattle.iox2_pubsub.specs.SendCalls.{FailsDelivery, IfBlocked, IsDelivered, SendsToConnection, SpendsLoan, messages_after_send};
     ghost use Rattle.iox2_domain.specs.Boxes.{answers_of};
     ghost use Rattle.iox2_domain.specs.Shows.{Shows};
     ghost use Rattle.iox2_pubsub.specs.Handles.{buffer_size_of, subscriber_id, written_lender, written_number};
@@ -63,7 +63,7 @@ impl SampleMut {
         requires channel { channel < channel_count domain.old.config }
         ensures errors { IfErr result (FailsDelivery domain.old (written_key self)) }
         ensures sent { (m : Messages T U) (s : State T U) (l : Loan T U) → Shows domain.old m s → s.loans (written_number self) ≡ Some l
-            → (s' : State T U) × Shows domain.new (messages_after m (written_number self) l result) s'
+            → (s' : State T U) × Shows domain.new (messages_after_send m (written_number self) l result) s'
             × SendsToConnection (answers_of F.allows G.allows (domain.old.boxes).publishers) s (written_number self) l channel connection result s' }
         ensures roomy { (subscriber : Subscriber) → channel ≡ 0 → IsAtConnection domain.old (written_lender self) connection subscriber → IsConnected domain.old (written_lender self) subscriber → HasItsBuffer domain.old subscriber
             → length (payloads_from domain.old (written_lender self) subscriber) < buffer_size_of subscriber → IfOk result IsDelivered × IfErr result (λ error. error ≢ UnableToDeliver) }

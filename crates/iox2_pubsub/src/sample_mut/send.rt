@@ -8,7 +8,7 @@ ghost use Rattle.iox2_domain.specs.Invariant.{IsDomain};
 ghost use Rattle.iox2_domain.specs.Kept.{state_of};
 ghost use Rattle.iox2_domain.specs.LoanCalls.{HoldsWritten};
 ghost use Rattle.iox2_domain.specs.LoanSlots.{LiesInSlot};
-ghost use Rattle.iox2_domain.specs.SentLoans.{SendsLoan};
+ghost use Rattle.iox2_domain.specs.SentLoans.{SendsKeptLoan};
 ghost use Rattle.iox2_messages.specs.SendEnds.{IsNotLost, end_result};
 ghost use Rattle.iox2_messages.specs.declared.send_end.SendEnd.{SendEnd};
 ghost use Rattle.iox2_pubsub.specs.SendCalls.{IfBlocked, result_of_send};
@@ -32,7 +32,7 @@ impl SampleMut {
     ghost use Rattle.iox2_pubsub.specs.Counts.{Counts};
     ghost use Rattle.iox2_pubsub.specs.RoomyPublishers.{HasRoomAlone, HasRoomAtAll, IsRoomy};
     ghost use Rattle.iox2_pubsub.specs.Slices.{HasValues};
-    ghost use Rattle.iox2_pubsub.specs.SendCalls.{AfterError, FailsSend, IsDelivered, Sends, SpendsLoan, messages_after};
+    ghost use Rattle.iox2_pubsub.specs.SendCalls.{AfterError, FailsSend, IsDelivered, Sends, SpendsLoan, messages_after_send};
     ghost use Rattle.iox2_pubsub.specs.declared.subscriber.Subscriber.{Subscriber};
     ghost use Rattle.iox2_domain.specs.Boxes.{answers_of};
     ghost use Rattle.iox2_domain.specs.Shows.{Shows};
@@ -65,7 +65,7 @@ impl SampleMut {
         requires unblocked { IsUnblocked domain.old (written_key self) }
         ensures errors { IfErr result (FailsSend domain.old (written_key self)) }
         ensures sent { (m : Messages T U) (s : State T U) (l : Loan T U) → Shows domain.old m s → s.loans (written_number self) ≡ Some l
-            → (s' : State T U) × Shows domain.new (messages_after m (written_number self) l result) s' × Sends (answers_of F.allows G.allows (domain.old.boxes).publishers) s (written_number self) l result s' }
+            → (s' : State T U) × Shows domain.new (messages_after_send m (written_number self) l result) s' × Sends (answers_of F.allows G.allows (domain.old.boxes).publishers) s (written_number self) l result s' }
         ensures consistent { IsConsistent domain.old }
         ensures roomy { IsRoomy domain.old (written_lender self) → IfOk result IsDelivered × IfErr result (λ error. error ≢ UnableToDeliver) }
         ensures roomy_alone { (subscriber : Subscriber) → HasRoomAlone domain.old (written_lender self) subscriber → IfOk result IsDelivered × IfErr result (λ error. error ≢ UnableToDeliver) }
@@ -110,7 +110,7 @@ fn send_loan<T: Drop, U: Default + Drop, F: BackpressureFn, G: DegradationFn>(
     requires live { HoldsWritten (state_of (kept_of state.old)) loan.publisher loan.number }
     requires lies { LiesInSlot state.old loan.publisher loan.number loan.book loan.slot }
     requires unblocked { is_blocked (state_of (kept_of state.old)) loan.publisher ≡ false }
-    ensures ends { (end : SendEnd) × SendsLoan (answers_of F.allows G.allows (boxes.now).boxes) state.old state.new loan.number (end_result end)
+    ensures ends { (end : SendEnd) × SendsKeptLoan (answers_of F.allows G.allows (boxes.now).boxes) state.old state.new loan.number (end_result end)
         × (HoldsPublisher (state_of (kept_of state.old)) loan.publisher → IsNotLost end) × (result_of_send result ≡ end_result end) }
     ensures blocked { IfOk result (λ came. IfBlocked came (λ it. it ≡ blocked)) }
 {

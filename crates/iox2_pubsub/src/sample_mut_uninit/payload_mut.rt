@@ -14,8 +14,8 @@ impl SampleMutUninit {
     ghost use Rattle.iox2_machine.specs.machine.State.{State, Messages, with_loan};
     ghost use Rattle.iox2_domain.specs.LoanCalls.{first_cell_changed};
     ghost use Rattle.iox2_domain.specs.Shows.{Shows};
-    ghost use Rattle.iox2_pubsub.specs.ChangedLoans.{with_cell};
-    ghost use Rattle.iox2_pubsub.specs.Live.{IsSingleValued, IsUnwritten, IsUnwrittenLoan, LoanHasHeader, LoanHasUserHeader, NeverWaits, UnwrittenReads, unwritten_key, unwritten_loan};
+    ghost use Rattle.iox2_pubsub.specs.ChangedLoans.{with_cell_left};
+    ghost use Rattle.iox2_pubsub.specs.Live.{IsSingleValued, IsUnwritten, NeverWaitsUnwritten, LoanHasHeader, LoanHasUserHeader, NeverWaits, UnwrittenReads, unwritten_key, unwritten_loan};
     ghost use Rattle.iox2_pubsub.specs.Leaves.{LeavesBut};
     ghost use Rattle.iox2_pubsub.specs.LoanLends.{LendsCell};
     ghost use Rattle.iox2_pubsub.specs.Handles.{unwritten_number};
@@ -37,15 +37,15 @@ impl SampleMutUninit {
         ensures payload { UnwrittenReads domain.old sample.old result.now }
         ensures changes { (m : Messages T U) (s : State T U) (cell : Option T) → Shows domain.old m s
             → (l : Loan T U) × (s.loans (unwritten_number sample.old) ≡ Some l)
-            × Shows (with_cell domain.old (unwritten_number sample.old) cell) m (with_loan s (unwritten_number sample.old) (Some (first_cell_changed cell l))) }
-        ensures out { (cell : Option T) → IsUnwritten (with_cell domain.old (unwritten_number sample.old) cell) sample.old }
-        ensures live { NeverWaits domain.old (unwritten_key sample.old) → (cell : Option T) → IsUnwrittenLoan (with_cell domain.old (unwritten_number sample.old) cell) sample.old }
-        ensures reads { (cell : Option T) → UnwrittenReads (with_cell domain.old (unwritten_number sample.old) cell) sample.old cell }
+            × Shows (with_cell_left domain.old (unwritten_number sample.old) cell) m (with_loan s (unwritten_number sample.old) (Some (first_cell_changed cell l))) }
+        ensures out { (cell : Option T) → IsUnwritten (with_cell_left domain.old (unwritten_number sample.old) cell) sample.old }
+        ensures live { NeverWaits domain.old (unwritten_key sample.old) → (cell : Option T) → NeverWaitsUnwritten (with_cell_left domain.old (unwritten_number sample.old) cell) sample.old }
+        ensures reads { (cell : Option T) → UnwrittenReads (with_cell_left domain.old (unwritten_number sample.old) cell) sample.old cell }
         ensures header { (cell : Option T) (header : Header) → LoanHasHeader domain.old (unwritten_key sample.old) header
-            → LoanHasHeader (with_cell domain.old (unwritten_number sample.old) cell) (unwritten_key sample.new) header }
+            → LoanHasHeader (with_cell_left domain.old (unwritten_number sample.old) cell) (unwritten_key sample.new) header }
         ensures user_header { (cell : Option T) (header : U) → LoanHasUserHeader domain.old (unwritten_key sample.old) header
-            → LoanHasUserHeader (with_cell domain.old (unwritten_number sample.old) cell) (unwritten_key sample.new) header }
-        ensures leaves { (cell : Option T) → LeavesBut (unwritten_loan sample.old) domain.old (with_cell domain.old (unwritten_number sample.old) cell) }
+            → LoanHasUserHeader (with_cell_left domain.old (unwritten_number sample.old) cell) (unwritten_key sample.new) header }
+        ensures leaves { (cell : Option T) → LeavesBut (unwritten_loan sample.old) domain.old (with_cell_left domain.old (unwritten_number sample.old) cell) }
     {
         let at = find_live_loan(&domain.state, &sample.loan);
         cell_at_mut(&mut domain.state, at)

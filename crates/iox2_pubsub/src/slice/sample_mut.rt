@@ -42,7 +42,7 @@ impl SampleMut {
     ghost use Rattle.iox2_pubsub.specs.declared.subscriber.Subscriber.{Subscriber};
     ghost use Rattle.iox2_pubsub.specs.LoanCalls.{IsDiscarded};
     ghost use Rattle.iox2_pubsub.specs.RoomyPublishers.{HasRoomAlone, HasRoomAtAll, IsRoomy};
-    ghost use Rattle.iox2_pubsub.specs.SendCalls.{AfterError, FailsDelivery, FailsSend, IfBlocked, IsDelivered, Sends, SendsToConnection, SpendsLoan, messages_after};
+    ghost use Rattle.iox2_pubsub.specs.SendCalls.{AfterError, FailsDelivery, FailsSend, IfBlocked, IsDelivered, Sends, SendsToConnection, SpendsLoan, messages_after_send};
     ghost use Rattle.iox2_pubsub.specs.Slices.{HasValues, HoldsSlices};
     ghost use Rattle.iox2_pubsub.specs.Handles.{as_written, buffer_size_of, subscriber_id, written_lender, written_number};
 
@@ -74,7 +74,7 @@ impl SampleMut {
         requires unblocked { IsUnblocked domain.old (written_key (as_written self)) }
         ensures errors { IfErr result (FailsSend domain.old (written_key (as_written self))) }
         ensures sent { (m : Messages T U) (s : State T U) (l : Loan T U) → Shows domain.old m s → s.loans (written_number (as_written self)) ≡ Some l
-            → (s' : State T U) × Shows domain.new (messages_after m (written_number (as_written self)) l result) s' × Sends (answers_of F.allows G.allows (domain.old.boxes).publishers) s (written_number (as_written self)) l result s' }
+            → (s' : State T U) × Shows domain.new (messages_after_send m (written_number (as_written self)) l result) s' × Sends (answers_of F.allows G.allows (domain.old.boxes).publishers) s (written_number (as_written self)) l result s' }
         ensures consistent { IsConsistent domain.old }
         ensures roomy { IsRoomy domain.old (written_lender (as_written self)) → IfOk result IsDelivered × IfErr result (λ error. error ≢ UnableToDeliver) }
         ensures roomy_alone { (subscriber : Subscriber) → HasRoomAlone domain.old (written_lender (as_written self)) subscriber → IfOk result IsDelivered × IfErr result (λ error. error ≢ UnableToDeliver) }
@@ -125,7 +125,7 @@ impl SampleMut {
         requires channel { channel < channel_count domain.old.config }
         ensures errors { IfErr result (FailsDelivery domain.old (written_key (as_written self))) }
         ensures sent { (m : Messages T U) (s : State T U) (l : Loan T U) → Shows domain.old m s → s.loans (written_number (as_written self)) ≡ Some l
-            → (s' : State T U) × Shows domain.new (messages_after m (written_number (as_written self)) l result) s'
+            → (s' : State T U) × Shows domain.new (messages_after_send m (written_number (as_written self)) l result) s'
             × SendsToConnection (answers_of F.allows G.allows (domain.old.boxes).publishers) s (written_number (as_written self)) l channel connection result s' }
         ensures roomy { (subscriber : Subscriber) → channel ≡ 0 → IsAtConnection domain.old (written_lender (as_written self)) connection subscriber → IsConnected domain.old (written_lender (as_written self)) subscriber → HasItsBuffer domain.old subscriber
             → length (payloads_from domain.old (written_lender (as_written self)) subscriber) < buffer_size_of subscriber → IfOk result IsDelivered × IfErr result (λ error. error ≢ UnableToDeliver) }

@@ -11,7 +11,7 @@ use std::marker::PhantomData;
 impl Subscriber {
     ghost use Rattle.iox2_domain.specs.Boxes.{answers_of};
     ghost use Rattle.iox2_pubsub.specs.Live.{IsLiveSubscriber};
-    ghost use Rattle.iox2_pubsub.specs.ReceivedSamples.{Receives};
+    ghost use Rattle.iox2_pubsub.specs.ReceivedSamples.{ReceivesSample};
 
     /// Updates the subscriber's connections and receives the oldest message that waits from one
     /// publisher, if it may borrow one more from that publisher. Closed publishers come first. It isn't
@@ -30,7 +30,7 @@ impl Subscriber {
         domain: &mut Domain<T, U, F, G>,
     ) -> Result<Option<Sample>, ReceiveError>
         requires live { IsLiveSubscriber domain.old self.now }
-        ensures { Receives (answers_of F.allows G.allows (domain.old.boxes).subscribers) self.now result domain.old domain.new }
+        ensures { ReceivesSample (answers_of F.allows G.allows (domain.old.boxes).subscribers) self.now result domain.old domain.new }
     {
         let receipt = receive_at(&mut domain.state, &domain.subscriber_boxes, self.place)?;
         let Some(receipt) = receipt else {

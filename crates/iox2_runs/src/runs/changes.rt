@@ -2,7 +2,7 @@
 ghost use Rattle.std.specs.Prelude.{◌≡◌, cond};
 ghost use Rattle.iox2_machine.specs.machine.Environments.{fixed_handlers};
 ghost use Rattle.iox2_runs.specs.Carries.{defaults_of};
-ghost use Rattle.iox2_runs.specs.Turns.{IsHeld, Turns};
+ghost use Rattle.iox2_runs.specs.Turns.{IsLiveEntry, Turns};
 ghost use Rattle.iox2_commands.specs.declared.command.Command.TheVariants.{AssumeInit, SetPayload, WriteCell, WriteHeader, WriteAll};
 ghost use Rattle.iox2_commands.specs.declared.reply.Reply.TheVariants.{Done, Skipped};
 
@@ -19,7 +19,7 @@ pub(crate) fn write_cell<T: Default + Drop, U: Default + Drop, F: BackpressureFn
     at: usize,
     value: T,
 ) -> Turn<T, U>
-    requires { IsHeld domain.old held }
+    requires { IsLiveEntry domain.old held }
     ensures { Turns fixed_handlers (defaults_of T.is_default U.is_default) domain.old domain.new held (λ of. WriteCell of at value) result }
 {
     match held {
@@ -38,7 +38,7 @@ pub(crate) fn set_payload<
     F: BackpressureFn,
     G: DegradationFn,
 >(domain: &mut Domain<T, U, F, G>, held: Made, at: usize, value: T) -> Turn<T, U>
-    requires { IsHeld domain.old held }
+    requires { IsLiveEntry domain.old held }
     ensures { Turns fixed_handlers (defaults_of T.is_default U.is_default) domain.old domain.new held (λ of. SetPayload of at value) result }
 {
     match held {
@@ -68,7 +68,7 @@ pub(crate) fn write_all<
     F: BackpressureFn,
     G: DegradationFn,
 >(domain: &mut Domain<T, U, F, G>, held: Made, value: T) -> Turn<T, U>
-    requires { IsHeld domain.old held }
+    requires { IsLiveEntry domain.old held }
     ensures { Turns fixed_handlers (defaults_of T.is_default U.is_default) domain.old domain.new held (λ of. WriteAll of value) result }
 {
     match held {
@@ -87,7 +87,7 @@ pub(crate) fn write_header<
     F: BackpressureFn,
     G: DegradationFn,
 >(domain: &mut Domain<T, U, F, G>, held: Made, value: U) -> Turn<T, U>
-    requires { IsHeld domain.old held }
+    requires { IsLiveEntry domain.old held }
     ensures { Turns fixed_handlers (defaults_of T.is_default U.is_default) domain.old domain.new held (λ of. WriteHeader of value) result }
 {
     match held {
@@ -110,7 +110,7 @@ pub(crate) fn assume_init<
     F: BackpressureFn,
     G: DegradationFn,
 >(domain: &mut Domain<T, U, F, G>, held: Made) -> Turn<T, U>
-    requires { IsHeld domain.old held }
+    requires { IsLiveEntry domain.old held }
     ensures { Turns fixed_handlers (defaults_of T.is_default U.is_default) domain.old domain.new held AssumeInit result }
 {
     match held {

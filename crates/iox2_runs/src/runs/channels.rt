@@ -6,7 +6,7 @@ ghost use Rattle.iox2_machine.specs.machine.State.{State, Messages};
 ghost use Rattle.iox2_domain.specs.Shows.{Shows};
 ghost use Rattle.iox2_pubsub.specs.Live.{IsLiveSubscriber, IsPlacedPublisher, IsPublisherKey, Stays, publisher_key};
 ghost use Rattle.iox2_runs.specs.Carries.{defaults_of};
-ghost use Rattle.iox2_runs.specs.Turns.{IsHeld, Turns};
+ghost use Rattle.iox2_runs.specs.Turns.{IsLiveEntry, Turns};
 ghost use Rattle.iox2_commands.specs.Step.{of_publisher_channel, of_subscriber_channel};
 ghost use Rattle.iox2_commands.specs.declared.command.Command.TheVariants.{SendToConnection, ConnectionPlace, PublisherChannel, SubscriberChannel};
 
@@ -33,7 +33,7 @@ pub(crate) fn send_to_connection<
     F: BackpressureFn,
     G: DegradationFn,
 >(domain: &mut Domain<T, U, F, G>, held: Made, channel: usize, connection: usize) -> Turn<T, U>
-    requires { IsHeld domain.old held }
+    requires { IsLiveEntry domain.old held }
     ensures { Turns fixed_handlers (defaults_of T.is_default U.is_default) domain.old domain.new held (λ of. SendToConnection of channel connection) result }
 {
     if !has_channel(domain, channel) {
@@ -59,7 +59,7 @@ pub(crate) fn connection_place<
     F: BackpressureFn,
     G: DegradationFn,
 >(domain: &mut Domain<T, U, F, G>, held: Made, receiver: u128) -> Turn<T, U>
-    requires { IsHeld domain.old held }
+    requires { IsLiveEntry domain.old held }
     ensures { Turns fixed_handlers (defaults_of T.is_default U.is_default) domain.old domain.new held (λ of. ConnectionPlace of receiver) result }
 {
     match held {
@@ -88,7 +88,7 @@ pub(crate) fn publisher_channel<
     connection: usize,
     call: PublisherChannelCall,
 ) -> Turn<T, U>
-    requires { IsHeld domain.old held }
+    requires { IsLiveEntry domain.old held }
     ensures { Turns fixed_handlers (defaults_of T.is_default U.is_default) domain.old domain.new held (λ of. PublisherChannel of channel connection call) result }
 {
     if !has_channel(domain, channel) {
@@ -144,7 +144,7 @@ pub(crate) fn subscriber_channel<
     channel: usize,
     call: SubscriberChannelCall,
 ) -> Turn<T, U>
-    requires { IsHeld domain.old held }
+    requires { IsLiveEntry domain.old held }
     ensures { Turns fixed_handlers (defaults_of T.is_default U.is_default) domain.old domain.new held (λ of. SubscriberChannel of channel call) result }
 {
     if !has_channel(domain, channel) {

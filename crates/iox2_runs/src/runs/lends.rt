@@ -1,7 +1,7 @@
 //! Commands that have a publisher lend, or send a copy.
 ghost use Rattle.iox2_machine.specs.machine.Environments.{fixed_handlers};
 ghost use Rattle.iox2_runs.specs.Carries.{defaults_of};
-ghost use Rattle.iox2_runs.specs.Turns.{IsHeld, Turns};
+ghost use Rattle.iox2_runs.specs.Turns.{IsLiveEntry, Turns};
 ghost use Rattle.iox2_commands.specs.declared.command.Command.TheVariants.{LoanUninit, Loan, SendCopy, LoanSlice};
 
 use super::made::{Made, Turn};
@@ -19,7 +19,7 @@ pub(crate) fn loan_uninit<
     F: BackpressureFn,
     G: DegradationFn,
 >(domain: &mut Domain<T, U, F, G>, held: Made) -> Turn<T, U>
-    requires { IsHeld domain.old held }
+    requires { IsLiveEntry domain.old held }
     ensures { Turns fixed_handlers (defaults_of T.is_default U.is_default) domain.old domain.new held LoanUninit result }
 {
     if !is_single_valued(domain) {
@@ -47,7 +47,7 @@ pub(crate) fn loan<T: Default + Drop, U: Default + Drop, F: BackpressureFn, G: D
     domain: &mut Domain<T, U, F, G>,
     held: Made,
 ) -> Turn<T, U>
-    requires { IsHeld domain.old held }
+    requires { IsLiveEntry domain.old held }
     ensures { Turns fixed_handlers (defaults_of T.is_default U.is_default) domain.old domain.new held Loan result }
 {
     if !is_single_valued(domain) {
@@ -76,7 +76,7 @@ pub(crate) fn loan_slice<T: Default + Drop, U: Default + Drop, F: BackpressureFn
     held: Made,
     len: usize,
 ) -> Turn<T, U>
-    requires { IsHeld domain.old held }
+    requires { IsLiveEntry domain.old held }
     ensures { Turns fixed_handlers (defaults_of T.is_default U.is_default) domain.old domain.new held (λ of. LoanSlice of len) result }
 {
     if !has_slices(domain) {
@@ -108,7 +108,7 @@ pub(crate) fn send_copy<T: Default + Drop, U: Default + Drop, F: BackpressureFn,
     held: Made,
     value: T,
 ) -> Turn<T, U>
-    requires { IsHeld domain.old held }
+    requires { IsLiveEntry domain.old held }
     ensures { Turns fixed_handlers (defaults_of T.is_default U.is_default) domain.old domain.new held (λ of. SendCopy of value) result }
 {
     if !is_single_valued(domain) {

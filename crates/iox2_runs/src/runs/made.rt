@@ -1,5 +1,5 @@
 //! What a run's commands made.
-ghost use Rattle.iox2_runs.specs.Turns.{IsTaken, IsPutBack};
+ghost use Rattle.iox2_runs.specs.Turns.{IsTakenFromTable, IsPutBack};
 
 use iox2_commands::Reply;
 use iox2_pubsub::{BlockedSend, Publisher, Sample, SampleMut, SampleMutUninit, Subscriber};
@@ -51,7 +51,7 @@ pub(crate) type Turn<T, U> = (Reply<T, U>, Made, Made);
 
 /// Takes what the command at the position made out of the table, if there is any.
 pub(crate) fn take(table: &mut Vec<Made>, of: usize) -> Made
-    ensures { IsTaken table.old table.new of result }
+    ensures { IsTakenFromTable table.old table.new of result }
 {
     if of < table.len() {
         mem::replace(&mut table[of], Made::Nothing)

@@ -4,7 +4,7 @@ ghost use Rattle.std.specs.Option.{option_map_or};
 ghost use Rattle.iox2_commands.specs.declared.reply.Reply.TheVariants.{Cell, Skipped};
 ghost use Rattle.iox2_machine.specs.machine.Environments.{fixed_handlers};
 ghost use Rattle.iox2_runs.specs.Carries.{defaults_of};
-ghost use Rattle.iox2_runs.specs.Turns.{IsHeld, Turns};
+ghost use Rattle.iox2_runs.specs.Turns.{IsLiveEntry, Turns};
 ghost use Rattle.iox2_commands.specs.declared.command.Command.TheVariants.{Read, ReadHeader, ReadUserHeader};
 
 use super::cells::{received_value, unwritten_cell, written_value};
@@ -20,7 +20,7 @@ pub(crate) fn read<
     F: BackpressureFn,
     G: DegradationFn,
 >(domain: &Domain<T, U, F, G>, held: Made, at: usize) -> Turn<T, U>
-    requires { IsHeld domain.now held }
+    requires { IsLiveEntry domain.now held }
     ensures { Turns fixed_handlers (defaults_of T.is_default U.is_default) domain.now domain.now held (λ of. Read of at) result }
 {
     match held {
@@ -67,7 +67,7 @@ pub(crate) fn read_header<
     F: BackpressureFn,
     G: DegradationFn,
 >(domain: &Domain<T, U, F, G>, held: Made) -> Turn<T, U>
-    requires { IsHeld domain.now held }
+    requires { IsLiveEntry domain.now held }
     ensures { Turns fixed_handlers (defaults_of T.is_default U.is_default) domain.now domain.now held ReadHeader result }
 {
     match held {
@@ -94,7 +94,7 @@ pub(crate) fn read_user_header<
     F: BackpressureFn,
     G: DegradationFn,
 >(domain: &Domain<T, U, F, G>, held: Made) -> Turn<T, U>
-    requires { IsHeld domain.now held }
+    requires { IsLiveEntry domain.now held }
     ensures { Turns fixed_handlers (defaults_of T.is_default U.is_default) domain.now domain.now held ReadUserHeader result }
 {
     match held {

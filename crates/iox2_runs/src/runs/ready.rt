@@ -1,7 +1,7 @@
 //! A publisher that may be called.
 ghost use Rattle.std.specs.Prelude.{◌≡◌, MatchResult};
 ghost use Rattle.iox2_pubsub.specs.Live.{IsReadyPublisher};
-ghost use Rattle.iox2_runs.specs.Turns.{IsHeld, IsUnready};
+ghost use Rattle.iox2_runs.specs.Turns.{IsLiveEntry, IsUnready};
 ghost use Rattle.iox2_runs.specs.declared.runs.made.Made.TheVariants.{Publisher as MadePublisher};
 
 use super::made::Made;
@@ -13,7 +13,7 @@ pub(crate) fn ready_publisher<T: Drop, U: Default + Drop, F: BackpressureFn, G: 
     domain: &Domain<T, U, F, G>,
     held: Made,
 ) -> Result<Publisher, Made>
-    requires { IsHeld domain.now held }
+    requires { IsLiveEntry domain.now held }
     ensures { MatchResult result (λ publisher. (held ≡ MadePublisher publisher) × IsReadyPublisher domain.now publisher)
         (λ other. (other ≡ held) × IsUnready domain.now held) }
 {

@@ -1,7 +1,7 @@
 //! Commands of subscribers that ask for a sample, or whether one waits.
 ghost use Rattle.iox2_machine.specs.machine.Environments.{fixed_handlers};
 ghost use Rattle.iox2_runs.specs.Carries.{defaults_of};
-ghost use Rattle.iox2_runs.specs.Turns.{IsHeld, Turns};
+ghost use Rattle.iox2_runs.specs.Turns.{IsLiveEntry, Turns};
 ghost use Rattle.iox2_commands.specs.declared.command.Command.TheVariants.{Receive, HasSamples};
 
 use super::made::{Made, Turn};
@@ -14,7 +14,7 @@ pub(crate) fn receive<T: Default + Drop, U: Default + Drop, F: BackpressureFn, G
     domain: &mut Domain<T, U, F, G>,
     held: Made,
 ) -> Turn<T, U>
-    requires { IsHeld domain.old held }
+    requires { IsLiveEntry domain.old held }
     ensures { Turns fixed_handlers (defaults_of T.is_default U.is_default) domain.old domain.new held Receive result }
 {
     if domain.config().units_per_element != 1 {
@@ -45,7 +45,7 @@ pub(crate) fn has_samples<
     F: BackpressureFn,
     G: DegradationFn,
 >(domain: &mut Domain<T, U, F, G>, held: Made) -> Turn<T, U>
-    requires { IsHeld domain.old held }
+    requires { IsLiveEntry domain.old held }
     ensures { Turns fixed_handlers (defaults_of T.is_default U.is_default) domain.old domain.new held HasSamples result }
 {
     match held {

@@ -1,7 +1,7 @@
 //! Commands that spend what one before them made.
 ghost use Rattle.iox2_machine.specs.machine.Environments.{fixed_handlers};
 ghost use Rattle.iox2_runs.specs.Carries.{defaults_of};
-ghost use Rattle.iox2_runs.specs.Turns.{IsHeld, Turns};
+ghost use Rattle.iox2_runs.specs.Turns.{IsLiveEntry, Turns};
 ghost use Rattle.iox2_commands.specs.declared.command.Command.TheVariants.{Send, Discard, Retry, GiveUp, Release, Close};
 
 use super::made::{Made, Turn};
@@ -17,7 +17,7 @@ pub(crate) fn send<T: Default + Drop, U: Default + Drop, F: BackpressureFn, G: D
     domain: &mut Domain<T, U, F, G>,
     held: Made,
 ) -> Turn<T, U>
-    requires { IsHeld domain.old held }
+    requires { IsLiveEntry domain.old held }
     ensures { Turns fixed_handlers (defaults_of T.is_default U.is_default) domain.old domain.new held Send result }
 {
     match held {
@@ -37,7 +37,7 @@ pub(crate) fn discard<T: Default + Drop, U: Default + Drop, F: BackpressureFn, G
     domain: &mut Domain<T, U, F, G>,
     held: Made,
 ) -> Turn<T, U>
-    requires { IsHeld domain.old held }
+    requires { IsLiveEntry domain.old held }
     ensures { Turns fixed_handlers (defaults_of T.is_default U.is_default) domain.old domain.new held Discard result }
 {
     match held {
@@ -59,7 +59,7 @@ pub(crate) fn retry<T: Default + Drop, U: Default + Drop, F: BackpressureFn, G: 
     held: Made,
     elapsed: Duration,
 ) -> Turn<T, U>
-    requires { IsHeld domain.old held }
+    requires { IsLiveEntry domain.old held }
     ensures { Turns fixed_handlers (defaults_of T.is_default U.is_default) domain.old domain.new held (λ of. Retry of elapsed) result }
 {
     match held {
@@ -77,7 +77,7 @@ pub(crate) fn give_up<T: Default + Drop, U: Default + Drop, F: BackpressureFn, G
     domain: &mut Domain<T, U, F, G>,
     held: Made,
 ) -> Turn<T, U>
-    requires { IsHeld domain.old held }
+    requires { IsLiveEntry domain.old held }
     ensures { Turns fixed_handlers (defaults_of T.is_default U.is_default) domain.old domain.new held GiveUp result }
 {
     match held {
@@ -94,7 +94,7 @@ pub(crate) fn release<T: Default + Drop, U: Default + Drop, F: BackpressureFn, G
     domain: &mut Domain<T, U, F, G>,
     held: Made,
 ) -> Turn<T, U>
-    requires { IsHeld domain.old held }
+    requires { IsLiveEntry domain.old held }
     ensures { Turns fixed_handlers (defaults_of T.is_default U.is_default) domain.old domain.new held Release result }
 {
     match held {
@@ -111,7 +111,7 @@ pub(crate) fn close<T: Default + Drop, U: Default + Drop, F: BackpressureFn, G: 
     domain: &mut Domain<T, U, F, G>,
     held: Made,
 ) -> Turn<T, U>
-    requires { IsHeld domain.old held }
+    requires { IsLiveEntry domain.old held }
     ensures { Turns fixed_handlers (defaults_of T.is_default U.is_default) domain.old domain.new held Close result }
 {
     match held {

@@ -4,7 +4,7 @@ ghost use Rattle.std.specs.Option.{option_map_or};
 ghost use Rattle.iox2_pubsub.specs.UpdateCalls.{returned_failure};
 ghost use Rattle.iox2_machine.specs.machine.Environments.{fixed_handlers};
 ghost use Rattle.iox2_runs.specs.Carries.{defaults_of};
-ghost use Rattle.iox2_runs.specs.Turns.{IsHeld, Turns};
+ghost use Rattle.iox2_runs.specs.Turns.{IsLiveEntry, Turns};
 ghost use Rattle.iox2_commands.specs.declared.command.Command.TheVariants.{Update};
 ghost use Rattle.iox2_commands.specs.declared.reply.Reply.TheVariants.{Done, UpdateRefused};
 
@@ -19,7 +19,7 @@ pub(crate) fn update<T: Default + Drop, U: Default + Drop, F: BackpressureFn, G:
     domain: &mut Domain<T, U, F, G>,
     held: Made,
 ) -> Turn<T, U>
-    requires { IsHeld domain.old held }
+    requires { IsLiveEntry domain.old held }
     ensures { Turns fixed_handlers (defaults_of T.is_default U.is_default) domain.old domain.new held Update result }
 {
     match held {

@@ -20,7 +20,7 @@ use Rattle.iox2_laws.proofs.PlaceLemmas.{contains-occupants, is_port-true}
 use Rattle.iox2_connections.specs.Leaves.{left_link, holds_slots}
 use Rattle.iox2_domain.specs.Ports.{PublisherFields, SubscriberFields}
 use Rattle.iox2_domain.specs.Kept.{state_of}
-use Rattle.iox2_domain.specs.Fields.{Fields, kept_of, publisher_of, subscriber_of, numbers_of}
+use Rattle.iox2_domain.specs.Fields.{Fields, kept_of, publisher_of, subscriber_of, number_in_slot}
 use Rattle.iox2_domain.specs.Invariant.{details_of, IsDomain}
 use Rattle.iox2_domain.proofs.lemmas.containers.LookUps.{map-at}
 use Rattle.iox2_domain.proofs.lemmas.fields.Standing.{occupant-receiver_ends, some_is}
@@ -99,14 +99,14 @@ module _ {T U : Type 0} (f : Fields T U) (sound : IsDomain f) (i : ℕ) (x : Pub
   borrowed-joined : (key : ℕ) (c : Link) → get f.connections key ≡ Some c → c.home.publisher ≡ x.id → is_nil c.borrowed ≡ false → IsJoined key c
   borrowed-joined key c at mine some =
       let s = state_of (kept_of f) in
-      let box : s.mailboxes x.id c.home.subscriber ≡ mailbox_of (numbers_of f.books x.id) c =
-      mailboxes-are f x.id c.home.subscriber ∙ mailbox-there (numbers_of f.books) f.connections key x.id c.home.subscriber c sound.parts.apart at mine refl in
+      let box : s.mailboxes x.id c.home.subscriber ≡ mailbox_of (number_in_slot f.books x.id) c =
+      mailboxes-are f x.id c.home.subscriber ∙ mailbox-there (number_in_slot f.books) f.connections key x.id c.home.subscriber c sound.parts.apart at mine refl in
       let borrows : has_borrows (s.mailboxes x.id c.home.subscriber) ≡ true = ap has_borrows box ∙ has c.borrowed some in
       let known = (sound.well_formed.mailboxes x.id c.home.subscriber).receiver_end borrows in
       let there = subscriber-there f sound c.home.subscriber known.0 known.1 in
       at_place known.0 known.1 there.0 there.1 there.2 there.3 there.4 known.2
     where
-      has : (slots : List ℕ) → is_nil slots ≡ false → not (is_nil (map (numbers_of f.books x.id) slots)) ≡ true
+      has : (slots : List ℕ) → is_nil slots ≡ false → not (is_nil (map (number_in_slot f.books x.id) slots)) ≡ true
       has [] e = absurd cc
       has (slot ∷ slots) e = refl
 

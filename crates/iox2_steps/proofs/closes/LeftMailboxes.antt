@@ -19,7 +19,7 @@ use Rattle.iox2_connections.proofs.MailboxChanges.{both-true, is_between-own, ma
 use Rattle.iox2_connections.specs.Leaves.{left_link}
 use Rattle.iox2_domain.specs.Ports.{PublisherFields, SubscriberFields}
 use Rattle.iox2_domain.specs.Kept.{Named, state_of, is_named}
-use Rattle.iox2_domain.specs.Fields.{Fields, kept_of, publisher_of, subscriber_of, numbers_of}
+use Rattle.iox2_domain.specs.Fields.{Fields, kept_of, publisher_of, subscriber_of, number_in_slot}
 use Rattle.iox2_domain.specs.Invariant.{is_subscriber, details_of, IsDomain}
 use Rattle.iox2_domain.proofs.lemmas.containers.LookUps.{look_up-map, map-at}
 use Rattle.iox2_domain.proofs.lemmas.fields.Standing.{occupant-receiver_ends, some_is, publisher-place}
@@ -37,7 +37,7 @@ module _ {T U : Type 0} (f : Fields T U) (sound : IsDomain f) (i : ℕ) (x : Pub
   leaver = (publisher_of f.books f.connections x).port
 
   abbrev number : ℕ → ℕ
-  number = numbers_of f.books x.id
+  number = number_in_slot f.books x.id
 
   -- ---- who awaits what waits
 
@@ -108,7 +108,7 @@ module _ {T U : Type 0} (f : Fields T U) (sound : IsDomain f) (i : ℕ) (x : Pub
       ∙ by (is_awaited f.subscribers key c)
     where
       box : before.mailboxes x.id c.home.subscriber ≡ mailbox_of number c
-      box = mailboxes-are f x.id c.home.subscriber ∙ mailbox-there (numbers_of f.books) f.connections key x.id c.home.subscriber c sound.parts.apart at_c mine refl
+      box = mailboxes-are f x.id c.home.subscriber ∙ mailbox-there (number_in_slot f.books) f.connections key x.id c.home.subscriber c sound.parts.apart at_c mine refl
 
       by : (t : Bool) → cond t (mailbox_of number c) (waiting_dropped (mailbox_of number c)) ≡ mailbox_of number (left_link t c)
       by true = refl
@@ -116,11 +116,11 @@ module _ {T U : Type 0} (f : Fields T U) (sound : IsDomain f) (i : ℕ) (x : Pub
 
   module _ (new : Slab Link) (left : LeavesConnections x.id f.subscribers f.connections new) where
     -- the machine's mailboxes
-    pub mailboxes-left : mailboxes_of (numbers_of f.books) new ≡ (publisher_gone before x.id leaver).mailboxes
+    pub mailboxes-left : mailboxes_of (number_in_slot f.books) new ≡ (publisher_gone before x.id leaver).mailboxes
     mailboxes-left = fun_ext (λ p. fun_ext (λ q. elim (cases_eq p x.id) [
       | inl same ↦ rw (same, eq-eqb x.id x.id refl) (own q (look_up (is_between x.id q) f.connections.slots) refl)
       | inr away ↦
-          left-boxes_others x.id f.subscribers f.connections new left sound.parts.apart (numbers_of f.books) p q away
+          left-boxes_others x.id f.subscribers f.connections new left sound.parts.apart (number_in_slot f.books) p q away
           ∙ sym (mailboxes-are f p q)
           ∙ ap (λ (t : Bool). cond t (mailbox_after_publisher before x.id leaver) (before.mailboxes p) q) (sym (ne_eqb p x.id away))
     ])) where
@@ -128,15 +128,15 @@ module _ {T U : Type 0} (f : Fields T U) (sound : IsDomain f) (i : ℕ) (x : Pub
       nothing true = refl
       nothing false = refl
 
-      own : (q : ℕ) (o : Option Link) → look_up (is_between x.id q) f.connections.slots ≡ o → mailboxes_of (numbers_of f.books) new x.id q ≡ mailbox_after_publisher before x.id leaver q
+      own : (q : ℕ) (o : Option Link) → look_up (is_between x.id q) f.connections.slots ≡ o → mailboxes_of (number_in_slot f.books) new x.id q ≡ mailbox_after_publisher before x.id leaver q
       own q None e =
           let was : before.mailboxes x.id q ≡ empty_mailbox = mailboxes-are f x.id q ∙ ap (mailbox_if_any number) e in
-          left-boxes_none x.id f.subscribers f.connections new left sound.parts.apart (numbers_of f.books) q e
+          left-boxes_none x.id f.subscribers f.connections new left sound.parts.apart (number_in_slot f.books) q e
           ∙ nothing (option_map_or machine_awaits (before.subscribers q) false)
           ∙ ap (λ (box : Mailbox). cond (option_map_or machine_awaits (before.subscribers q) false) box (waiting_dropped box)) (sym was)
       own q (Some c) e =
           let there = look_up-there (is_between x.id q) f.connections.slots c e in
           let both = both-true (eqb c.home.publisher x.id) (eqb c.home.subscriber q) there.2 in
           let mine : c.home.publisher ≡ x.id = eqb-true c.home.publisher x.id both.0 in
-          subst (λ (s : ℕ). mailboxes_of (numbers_of f.books) new x.id s ≡ mailbox_after_publisher before x.id leaver s) (eqb-true c.home.subscriber q both.1)
-          (left-boxes x.id f.subscribers f.connections new left sound.parts.apart (numbers_of f.books) there.0 c there.1 mine ∙ sym (mailbox-left there.0 c there.1 mine))
+          subst (λ (s : ℕ). mailboxes_of (number_in_slot f.books) new x.id s ≡ mailbox_after_publisher before x.id leaver s) (eqb-true c.home.subscriber q both.1)
+          (left-boxes x.id f.subscribers f.connections new left sound.parts.apart (number_in_slot f.books) there.0 c there.1 mine ∙ sym (mailbox-left there.0 c there.1 mine))

@@ -17,7 +17,7 @@ use Rattle.iox2_connections.specs.Mailboxes.{sender_ends, subscriber_of_key}
 use Rattle.iox2_connections.proofs.LookUps.{look_up-there}
 use Rattle.iox2_domain.specs.Ports.{PublisherFields}
 use Rattle.iox2_domain.specs.Kept.{Named, state_of, port_named, ids, is_named}
-use Rattle.iox2_domain.specs.Fields.{Fields, kept_of, publisher_of, numbers_of, blocked_send}
+use Rattle.iox2_domain.specs.Fields.{Fields, kept_of, publisher_of, number_in_slot, blocked_send}
 use Rattle.iox2_domain.specs.Invariant.{is_publisher, IsDomain}
 use Rattle.iox2_domain.proofs.lemmas.containers.ChangedRecords.{ends-agree}
 use Rattle.iox2_domain.proofs.lemmas.containers.LookUps.{look_up-map, look_up-removed, IsOnly-removed}
@@ -73,8 +73,8 @@ module _ {T U : Type 0} (f : Fields T U) (sound : IsDomain f) (i : ℕ) (x : Pub
         let own = some_is (IsSenders y.id place) (get f.connections key) ((sound.parts.linked.senders k y at_y).at place key at_key) in
         ap (option_map (λ (c : Link). c.home.subscriber)) (left-others x.id f.subscribers f.connections new left key own.0 own.1 (λ same. away (sym own.2.publisher ∙ same)) ∙ sym own.1))
 
-    blocked : option_map (blocked_send (numbers_of f.books y.id) (sender_ends new y.keys)) y.blocked ≡ option_map (blocked_send (numbers_of f.books y.id) (sender_ends f.connections y.keys)) y.blocked
-    blocked = ap (λ (os : List (Option ℕ)). option_map (blocked_send (numbers_of f.books y.id) os) y.blocked) ends
+    blocked : option_map (blocked_send (number_in_slot f.books y.id) (sender_ends new y.keys)) y.blocked ≡ option_map (blocked_send (number_in_slot f.books y.id) (sender_ends f.connections y.keys)) y.blocked
+    blocked = ap (λ (os : List (Option ℕ)). option_map (blocked_send (number_in_slot f.books y.id) os) y.blocked) ends
 
   abbrev port : Option (Named Publisher) → Option Publisher
   port o = option_map (λ (z : Named Publisher). z.port) o

@@ -25,7 +25,7 @@ use Rattle.iox2_laws.proofs.NumberLemmas.{contains_first, contains_later}
 use Rattle.iox2_connections.specs.Leaves.{left_link, holds_slots}
 use Rattle.iox2_domain.specs.Ports.{PublisherFields, SubscriberFields}
 use Rattle.iox2_domain.specs.Kept.{Named, state_of, port_named, ids, is_named}
-use Rattle.iox2_domain.specs.Fields.{Fields, kept_of, publisher_of, subscriber_of, numbers_of}
+use Rattle.iox2_domain.specs.Fields.{Fields, kept_of, publisher_of, subscriber_of, number_in_slot}
 use Rattle.iox2_domain.specs.Invariant.{is_subscriber, IsDomain}
 use Rattle.iox2_domain.proofs.lemmas.containers.ChangedRecords.{ends-agree}
 use Rattle.iox2_domain.proofs.lemmas.containers.LookUps.{look_up-map}
@@ -91,7 +91,7 @@ module _ {T U : Type 0} (f : Fields T U) (sound : IsDomain f) (i : ℕ) (x : Pub
   leaver-connected : (key : ℕ) (c : Link) → get f.connections key ≡ Some c → c.home.publisher ≡ x.id
       → is_connected gone c.home.subscriber x.id ≡ holds_slots (left_link (is_awaited f.subscribers key c) c)
   leaver-connected key c at_c mine =
-      rw (eq-eqb x.id x.id refl) (ap has_numbers (mailbox-left f sound i x here key c at_c mine) ∙ numbers-held (numbers_of f.books x.id) (left_link (is_awaited f.subscribers key c) c))
+      rw (eq-eqb x.id x.id refl) (ap has_numbers (mailbox-left f sound i x here key c at_c mine) ∙ numbers-held (number_in_slot f.books x.id) (left_link (is_awaited f.subscribers key c) c))
 
   module _ (j : ℕ) (y : SubscriberFields) (at_y : get_or f.subscribers j None ≡ Some y) where
     well : SubscriberIsWellFormed before y.id ((subscriber_of f.books f.connections y).port)

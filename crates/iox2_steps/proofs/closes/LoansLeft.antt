@@ -15,7 +15,7 @@ use Rattle.iox2_connections.specs.Counters.{times, stands, with_counters}
 use Rattle.iox2_connections.proofs.MailboxChanges.{both-true}
 use Rattle.iox2_domain.specs.Ports.{PublisherFields}
 use Rattle.iox2_domain.specs.Kept.{Lent_message, state_of}
-use Rattle.iox2_domain.specs.Fields.{Fields, kept_of, publisher_of, numbers_of, contents_at}
+use Rattle.iox2_domain.specs.Fields.{Fields, kept_of, publisher_of, number_in_slot, contents_at}
 use Rattle.iox2_domain.specs.LoanSlots.{IsLoanSlot}
 use Rattle.iox2_domain.specs.Invariant.{HasNumber, is_lent, is_loan_in, IsDomain}
 use Rattle.iox2_domain.proofs.lemmas.fields.Views.{unblocked}
@@ -42,13 +42,13 @@ module _ {T U : Type 0} (f : Fields T U) (sound : IsDomain f) (i : ℕ) (x : Pub
   pub loan-marked : x.blocked ≡ None → (slot : ℕ) → 0 < times slot x.loans → option_map_or is_lent (slice_get b.marks slot) false ≡ true
   loan-marked free slot some = by ((sound.well_formed.publishers x.id _ standing).loans_held n out) where
     n : ℕ
-    n = numbers_of f.books x.id slot
+    n = number_in_slot f.books x.id slot
 
     standing : (state_of (kept_of f)).publishers x.id ≡ Some ((publisher_of f.books f.connections x).port)
     standing = publisher-stands f sound.parts i x here
 
-    out : contains (map (numbers_of f.books x.id) x.loans) n ≡ true
-    out = contains-map (numbers_of f.books x.id) x.loans slot (times-stands slot x.loans some)
+    out : contains (map (number_in_slot f.books x.id) x.loans) n ≡ true
+    out = contains-map (number_in_slot f.books x.id) x.loans slot (times-stands slot x.loans some)
 
     has : HasNumber f.books x.book slot n
     has = record { book = b; stands = at; in_use = omega (arith, some, book-counts f sound.parts i x here b at slot); number = sym (its-number f sound i x here b at slot) }

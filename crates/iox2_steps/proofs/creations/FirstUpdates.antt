@@ -9,7 +9,7 @@ use Rattle.iox2_machine.specs.declared.warning.Warning.{Warning}
 use Rattle.iox2_machine.specs.declared.warning.Warning.TheVariants.{PublisherPartlyConnected, SubscriberPartlyConnected}
 use Rattle.iox2_laws.proofs.PortChanges.{with_warning_keeps}
 use Rattle.iox2_domain.specs.WarningRing.{WarningRing, warning_ring}
-use Rattle.iox2_domain.specs.Connects.{UpdatesPublisher}
+use Rattle.iox2_domain.specs.Connects.{UpdatesKeptPublisher}
 use Rattle.iox2_domain.specs.Ports.{PublisherFields, SubscriberFields}
 use Rattle.iox2_domain.specs.Kept.{state_of}
 use Rattle.iox2_domain.specs.Fields.{Fields, kept_of}
@@ -61,7 +61,7 @@ module _ {T U : Type 0} where
 
   -- an update of a publisher, and a warning of its failure, are a first update
   pub publisher-first-updates : (environment : Environment) (f mid new : Fields T U) (place p : ℕ) (failure : Option ConnectionFailure) (x : PublisherFields)
-      → UpdatesPublisher environment f place x mid failure → get_or f.publishers place None ≡ Some x → x.id ≡ p
+      → UpdatesKeptPublisher environment f place x mid failure → get_or f.publishers place None ≡ Some x → x.id ≡ p
       → new ≡ record mid { warnings = warning_ring (failure_warned (PublisherPartlyConnected p) failure mid.warnings.items) warning_limit } → PublisherFirstUpdates environment f place x new
   publisher-first-updates environment f mid new place p failure x u at its is = record {
     after = with_failure_warning u.after (PublisherPartlyConnected p) failure;

@@ -29,7 +29,7 @@ use Rattle.iox2_domain.specs.Kept.{Lent_message, state_of, entry_in}
 use Rattle.iox2_domain.specs.Fields.{Fields, kept_of, is_book_of, contents_at}
 use Rattle.iox2_domain.specs.Invariant.{IsDomain, HasLoneLoans, HasNumber, IsCounted, is_publisher, own_holders, holders_of, is_lent, is_loan_in, HasParts}
 use Rattle.iox2_domain.specs.Reaches.{Reaches}
-use Rattle.iox2_domain.specs.SentLoans.{SendsLoan}
+use Rattle.iox2_domain.specs.SentLoans.{SendsKeptLoan}
 use Rattle.iox2_domain.specs.Shows.{KeepsEntries}
 use Rattle.iox2_domain.proofs.lemmas.fields.NamedBooks.{names-books}
 use Rattle.iox2_domain.proofs.lemmas.fields.Views.{held-before}
@@ -229,7 +229,7 @@ module _ {T U : Type 0} (f : Fields T U) (sound : IsDomain f) (p n key slot : �
   left-discarded new l = (at.loan, at.is_out, left-reaches new l)
 
   -- what a send of it comes to: the loan is lost, and nobody gets the message
-  pub left-sent : (environment : Environment) (new : Fields T U) → LetsGo f key slot new → SendsLoan environment f new n (Send_error ConnectionBrokenSinceSenderNoLongerExists)
+  pub left-sent : (environment : Environment) (new : Fields T U) → LetsGo f key slot new → SendsKeptLoan environment f new n (Send_error ConnectionBrokenSinceSenderNoLongerExists)
   left-sent environment new l = record {
     loan = at.loan;
     out = at.is_out;

@@ -22,7 +22,7 @@ use Rattle.iox2_domain.specs.Discards.{with_holder_gone, with_loan_discarded}
 use Rattle.iox2_domain.specs.Deliveries.{with_loan_out}
 use Rattle.iox2_domain.specs.Ports.{PublisherFields}
 use Rattle.iox2_domain.specs.Kept.{Kept, Lent_message, state_of, entries_of, entry_in}
-use Rattle.iox2_domain.specs.Fields.{Fields, kept_of, publisher_of, numbers_of, contents_at, contents_in}
+use Rattle.iox2_domain.specs.Fields.{Fields, kept_of, publisher_of, number_in_slot, contents_at, contents_in}
 use Rattle.iox2_domain.specs.Invariant.{IsDomain, IsOwned, KeepsBooks, HasBooks, HasForms, HasOpenLoans, HasShapes, HasNumber, HasParts, LendsBlocked, cell_count}
 use Rattle.iox2_domain.specs.Reaches.{Reaches}
 use Rattle.iox2_domain.specs.Shows.{KeepsEntries}
@@ -110,7 +110,7 @@ module _ {T U : Type 0} (f : Fields T U) (sound : IsDomain f) (i : ℕ) (x : Pub
       port : Some ((publisher_of f.books f.connections (with_loan_out slot x)).port) ≡ option_map without_loan (was.publishers x.id)
       port =
           ap (λ ns. Some (record (publisher_of f.books f.connections x).port { loans = ns }))
-          (map-without (numbers_of f.books x.id) slot n (loan-number f sound i x here slot n l lies) x.loans (loan-slot f sound i x here slot n l lies))
+          (map-without (number_in_slot f.books x.id) slot n (loan-number f sound i x here slot n l lies) x.loans (loan-slot f sound i x here slot n l lies))
           ∙ sym (ap (option_map without_loan) (publisher-stands f sound.parts i x here))
 
   returned-is : state_of (kept_of returned) ≡ loan_discarded was n l

@@ -12,13 +12,13 @@ use Rattle.iox2_machine.specs.machine.Places.{occupants}
 use Rattle.iox2_machine.specs.machine.SubscriberUpdate.{Retirement, Keep_expired, Evict, Discard_data, Refuse, first_without_borrows, evict_or_refuse}
 use Rattle.iox2_laws.proofs.NumberLemmas.{contains_first, contains_later}
 use Rattle.iox2_connections.specs.Mailboxes.{mailbox_of, publisher_of_key, receiver_ends}
-use Rattle.iox2_connections.specs.Retires.{has_borrowed, first_unborrowed, chosen, evict_or_refuse as evict_key_or_refuse}
+use Rattle.iox2_connections.specs.Retires.{has_borrowed, first_unborrowed, chosen, evict_link_or_refuse as evict_key_or_refuse}
 use Rattle.iox2_connections.specs.declared.retirement.Retirement.{Retirement as Choice}
 use Rattle.iox2_connections.specs.declared.retirement.Retirement.TheVariants.{KeepExpired, Evict as EvictKey, DiscardData, Refuse as RefuseIt}
 use Rattle.iox2_connections.proofs.MailboxChanges.{mailbox-there}
 use Rattle.iox2_domain.specs.Ports.{SubscriberFields}
 use Rattle.iox2_domain.specs.Kept.{state_of}
-use Rattle.iox2_domain.specs.Fields.{Fields, kept_of, numbers_of, subscriber_of}
+use Rattle.iox2_domain.specs.Fields.{Fields, kept_of, number_in_slot, subscriber_of}
 use Rattle.iox2_domain.specs.Invariant.{IsDomain}
 use Rattle.iox2_domain.specs.ReceiverSteps.{HasDepartedEnd, machine_retirement}
 use Rattle.iox2_domain.proofs.lemmas.fields.Views.{mailboxes-are}
@@ -87,8 +87,8 @@ module _ {T U : Type 0} (f : Fields T U) (sound : IsDomain f) (j i : ℕ) (y : S
   -- what is borrowed of a connection
   pub borrows-are : (k : ℕ) (d : Link) → get f.connections k ≡ Some d → d.home.subscriber ≡ y.id → has_borrows ((state_of (kept_of f)).mailboxes d.home.publisher y.id) ≡ has_borrowed (get f.connections k)
   borrows-are k d at its =
-      ap has_borrows (mailboxes-are f d.home.publisher y.id ∙ mailbox-there (numbers_of f.books) f.connections k d.home.publisher y.id d sound.parts.apart at refl its)
-      ∙ some-borrowed (numbers_of f.books d.home.publisher) d ∙ sym (ap has_borrowed at)
+      ap has_borrows (mailboxes-are f d.home.publisher y.id ∙ mailbox-there (number_in_slot f.books) f.connections k d.home.publisher y.id d sound.parts.apart at refl its)
+      ∙ some-borrowed (number_in_slot f.books d.home.publisher) d ∙ sym (ap has_borrowed at)
 
   abbrev Each : List ℕ → Type 0
   Each keys = (k : ℕ) → contains keys k ≡ true → (d : Link) × (get f.connections k ≡ Some d) × (d.home.subscriber ≡ y.id)

@@ -26,7 +26,7 @@ use Rattle.iox2_steps.proofs.updates.FollowedChannels.{follow-fewer}
 use Rattle.iox2_domain.specs.Ports.{SubscriberFields}
 use Rattle.iox2_domain.specs.Kept.{state_of, entries_of}
 use Rattle.iox2_domain.specs.Invariant.{is_publisher, HasParts, IsDomain, HasLoneLoans, IsOwned, IsLeft, IsGone}
-use Rattle.iox2_domain.specs.Fields.{Fields, kept_of, publisher_of, numbers_of}
+use Rattle.iox2_domain.specs.Fields.{Fields, kept_of, publisher_of, number_in_slot}
 use Rattle.iox2_domain.proofs.lemmas.fields.SameEnds.{with_connections, same-publisher_of_key}
 use Rattle.iox2_domain.proofs.lemmas.fields.Views.{mailboxes-are}
 use Rattle.iox2_domain.proofs.lemmas.slots.BookChanges.{book-was, book-here}
@@ -88,16 +88,16 @@ module _ {T U : Type 0} (f : Fields T U) (sound : IsDomain f) (j : ℕ) (y : Sub
   dropped-parts = counts.parts-recounted f sound p c.home.book b at_b mine holders between recounts
 
   -- the waiting messages of one mailbox are lost
-  boxes-dropped : mailboxes_of (numbers_of f.books) between ≡ with_box (seen f).mailboxes p y.id (waiting_dropped ((seen f).mailboxes p y.id))
+  boxes-dropped : mailboxes_of (number_in_slot f.books) between ≡ with_box (seen f).mailboxes p y.id (waiting_dropped ((seen f).mailboxes p y.id))
   boxes-dropped =
-      mailboxes-changed (numbers_of f.books) f.connections between key c emptied sound.parts.apart link refl (Updates-with_value f.connections key c emptied link)
+      mailboxes-changed (number_in_slot f.books) f.connections between key c emptied sound.parts.apart link refl (Updates-with_value f.connections key c emptied link)
       ∙ (λ k. with_box (are k) p (departed.subscriber k) (waiting_dropped (box k)))
     where
-      are : mailboxes_of (numbers_of f.books) f.connections ≡ (seen f).mailboxes
+      are : mailboxes_of (number_in_slot f.books) f.connections ≡ (seen f).mailboxes
       are = fun_ext (λ r. fun_ext (λ q. sym (mailboxes-are f r q)))
 
-      box : mailbox_of (numbers_of f.books p) c ≡ (seen f).mailboxes p y.id
-      box = sym (mailboxes-are f p y.id ∙ mailbox-there (numbers_of f.books) f.connections key p y.id c sound.parts.apart link refl departed.subscriber)
+      box : mailbox_of (number_in_slot f.books p) c ≡ (seen f).mailboxes p y.id
+      box = sym (mailboxes-are f p y.id ∙ mailbox-there (number_in_slot f.books) f.connections key p y.id c sound.parts.apart link refl departed.subscriber)
 
   pub dropped-is : state_of (kept_of dropped_fields) ≡ record (seen f) { mailboxes = with_box (seen f).mailboxes p y.id (waiting_dropped ((seen f).mailboxes p y.id)) }
   dropped-is =

@@ -11,7 +11,7 @@ use Rattle.iox2_connections.specs.Mailboxes.{receiver_ends}
 use Rattle.iox2_domain.specs.Ports.{PublisherFields, SubscriberFields}
 use Rattle.iox2_domain.specs.Kept.{Named, state_of}
 use Rattle.iox2_domain.specs.Invariant.{HasParts}
-use Rattle.iox2_domain.specs.Fields.{Fields, kept_of, publisher_of, subscriber_of, numbers_of, blocked_send}
+use Rattle.iox2_domain.specs.Fields.{Fields, kept_of, publisher_of, subscriber_of, number_in_slot, blocked_send}
 use Rattle.iox2_domain.proofs.lemmas.fields.Views.{mailboxes-are}
 use Rattle.iox2_domain.proofs.lemmas.containers.ChangedRecords.{map-agrees}
 use Rattle.iox2_domain.proofs.lemmas.containers.Extensions.{Extends, sender_ends-same, receiver_ends-same}
@@ -22,7 +22,7 @@ module _ {T U : Type 0} (f : Fields T U) (parts : HasParts f) (connections : Sla
   pub publisher-same : (k : ℕ) (z : PublisherFields) → get_or f.publishers k None ≡ Some z → publisher_of f.books connections z ≡ publisher_of f.books f.connections z
   publisher-same k z at = ap named (sender_ends-same f.connections connections e z.id z.keys (parts.linked.senders k z at)) where
     named : List (Option ℕ) → Named Publisher
-    named ends = record (publisher_of f.books f.connections z) { port = record (publisher_of f.books f.connections z).port { ends = ends; blocked = option_map (blocked_send (numbers_of f.books z.id) ends) z.blocked } }
+    named ends = record (publisher_of f.books f.connections z) { port = record (publisher_of f.books f.connections z).port { ends = ends; blocked = option_map (blocked_send (number_in_slot f.books z.id) ends) z.blocked } }
 
   pub subscriber-same : (k : ℕ) (y : SubscriberFields) → get_or f.subscribers k None ≡ Some y → subscriber_of f.books connections y ≡ subscriber_of f.books f.connections y
   subscriber-same k y at =
@@ -45,4 +45,4 @@ module _ {T U : Type 0} (f : Fields T U) (parts : HasParts f) (connections : Sla
 
   pub mailboxes-same : (state_of (kept_of (record f { connections = connections }))).mailboxes ≡ (state_of (kept_of f)).mailboxes
   mailboxes-same = fun_ext (λ p. fun_ext (λ q.
-      mailboxes-are (record f { connections = connections }) p q ∙ e.boxes (numbers_of f.books) p q ∙ sym (mailboxes-are f p q)))
+      mailboxes-are (record f { connections = connections }) p q ∙ e.boxes (number_in_slot f.books) p q ∙ sym (mailboxes-are f p q)))

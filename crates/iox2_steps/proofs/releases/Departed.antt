@@ -16,7 +16,7 @@ use Rattle.iox2_connections.specs.Mailboxes.{publisher_of_key, mailbox_of, numbe
 use Rattle.iox2_connections.proofs.LookUps.{look_up-none}
 use Rattle.iox2_connections.proofs.MailboxChanges.{is_between-own, mailbox-there}
 use Rattle.iox2_domain.specs.Departures.{key_forgotten}
-use Rattle.iox2_domain.specs.Fields.{Fields, kept_of, numbers_of, publisher_of, subscriber_of}
+use Rattle.iox2_domain.specs.Fields.{Fields, kept_of, number_in_slot, publisher_of, subscriber_of}
 use Rattle.iox2_domain.specs.Invariant.{SenderHas, is_publisher, HasParts}
 use Rattle.iox2_domain.specs.Kept.{state_of}
 use Rattle.iox2_domain.specs.Midway.{IsMidway, with_channels_of}
@@ -64,10 +64,10 @@ module _ {T U : Type 0} (s : State T U) (well : IsWellFormed s) (n : ℕ) (g : F
   test-gone =
       ap (λ b. b || has_numbers (after.mailboxes c.home.publisher y.id)) (ap (λ (o : Option Publisher). is_some o) (ap (λ (t : State T U). t.publishers c.home.publisher) (sym is) ∙ gone-in g c.home.publisher gone))
       ∙ ap has_numbers (ap (λ (t : State T U). t.mailboxes c.home.publisher y.id) (sym is) ∙ mailboxes-are g c.home.publisher y.id
-      ∙ mailbox-there (numbers_of g.books) g.connections key c.home.publisher y.id c parts.apart at_c refl mine)
+      ∙ mailbox-there (number_in_slot g.books) g.connections key c.home.publisher y.id c parts.apart at_c refl mine)
       ∙ none
     where
-      none : has_numbers (mailbox_of (numbers_of g.books c.home.publisher) c) ≡ false
+      none : has_numbers (mailbox_of (number_in_slot g.books c.home.publisher) c) ≡ false
       none = let is = unloaded c empty in rw (is.waiting, is.borrowed, is.others) refl
 
   -- another connection of it is with another publisher
@@ -143,8 +143,8 @@ module _ {T U : Type 0} (s : State T U) (well : IsWellFormed s) (n : ℕ) (g : F
       some : has_numbers ((unborrowed s c.home.publisher y.id n).mailboxes c.home.publisher y.id) ≡ true
       some =
           ap has_numbers (ap (λ (t : State T U). t.mailboxes c.home.publisher y.id) (sym midway.state) ∙ mailboxes-are g c.home.publisher y.id
-          ∙ mailbox-there (numbers_of g.books) g.connections key c.home.publisher y.id c parts.apart at_c refl mine)
-          ∙ some-numbers (numbers_of g.books c.home.publisher) c.others c.waiting c.borrowed c.returned (returned (parts.linked.returned key c at_c)) full
+          ∙ mailbox-there (number_in_slot g.books) g.connections key c.home.publisher y.id c parts.apart at_c refl mine)
+          ∙ some-numbers (number_in_slot g.books c.home.publisher) c.others c.waiting c.borrowed c.returned (returned (parts.linked.returned key c at_c)) full
 
 -- the key of a departed publisher stands at its place alone
 pub key-place : {T U : Type 0} (g : Fields T U) → HasParts g → (j i key : ℕ) (y : SubscriberFields) (c : Link) → get_or g.subscribers j None ≡ Some y → get_or y.keys i None ≡ Some key

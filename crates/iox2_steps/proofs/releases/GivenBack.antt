@@ -6,7 +6,7 @@ use Rattle.iox2_machine.specs.machine.Releases.{freed_if_unused, released, subsc
 use Rattle.iox2_machine.specs.machine.State.{State, is_linked}
 use Rattle.iox2_machine.specs.machine.WellFormed.{IsWellFormed, MailboxIsWellFormed}
 use Rattle.iox2_laws.proofs.ReleaseLaws.{released_keeps, released_nearly}
-use Rattle.iox2_domain.specs.Fields.{Fields, kept_of, numbers_of}
+use Rattle.iox2_domain.specs.Fields.{Fields, kept_of, number_in_slot}
 use Rattle.iox2_domain.specs.Invariant.{IsDomain}
 use Rattle.iox2_domain.specs.Kept.{state_of}
 use Rattle.iox2_domain.specs.Reaches.{Reaches}
@@ -22,9 +22,9 @@ use Rattle.iox2_domain.proofs.lemmas.samples.SampleEntries.{one-publisher}
 use Rattle.iox2_domain.proofs.lemmas.slots.ConnectionSlots.{book-numbers}
 
 module _ {T U : Type 0} (f : Fields T U) (sound : IsDomain f) (q n : ℕ) (at : SampleSlot) (lies : LiesBorrowed f q n at) (home : Home) (is : (lies.connection).home ≡ home) where
-  number-there : numbers_of f.books home.publisher at.slot ≡ n
+  number-there : number_in_slot f.books home.publisher at.slot ≡ n
   number-there =
-      ap (λ (h : Home). numbers_of f.books h.publisher at.slot) (sym is)
+      ap (λ (h : Home). number_in_slot f.books h.publisher at.slot) (sym is)
       ∙ book-numbers f sound at.connection at.book lies.connection lies.book lies.has_connection lies.has_book lies.book_is at.slot ∙ (lies.slot_is).number_is
 
   -- the slot is borrowed there
@@ -36,7 +36,7 @@ module _ {T U : Type 0} (f : Fields T U) (sound : IsDomain f) (q n : ℕ) (at : 
 
   -- the number in the slot
   abbrev number : ℕ
-  number = numbers_of f.books home.publisher at.slot
+  number = number_in_slot f.books home.publisher at.slot
 
   -- the subscriber's mailboxes are well-formed then
   pub pruned-boxes : (mid : Fields T U) → HandsBack f home at.slot mid → (y : SubscriberFields) → y.id ≡ home.subscriber → (p : ℕ) → MailboxIsWellFormed (state_of (kept_of mid)) p y.id

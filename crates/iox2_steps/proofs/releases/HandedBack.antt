@@ -22,7 +22,7 @@ use Rattle.iox2_connections.proofs.LookUps.{look_up-nothing}
 use Rattle.iox2_connections.proofs.MailboxChanges.{mailbox-there}
 use Rattle.iox2_connections.proofs.Releases.{IsOnce-map}
 use Rattle.iox2_laws.proofs.MailboxLemmas.{has_borrows-is_borrowed}
-use Rattle.iox2_domain.specs.Fields.{Fields, kept_of, numbers_of, subscriber_of}
+use Rattle.iox2_domain.specs.Fields.{Fields, kept_of, number_in_slot, subscriber_of}
 use Rattle.iox2_domain.specs.Invariant.{IsBookOf, IsDomain, KeepsBooks, details_of, is_publisher}
 use Rattle.iox2_domain.specs.Kept.{state_of}
 use Rattle.iox2_domain.specs.Midway.{IsMidway}
@@ -44,7 +44,7 @@ IsBorrowedAt connections key slot home = IsSomeAnd (get connections key) (λ (c 
 -- what a step is midway comes to where this slot was handed back
 abbrev pub HandsBack : {T U : Type 0} → Fields T U → Home → (slot : ℕ) → Fields T U → Type 0
 HandsBack f home slot new =
-    IsMidway f new (subscriber_pruned (unborrowed (state_of (kept_of f)) home.publisher home.subscriber (numbers_of f.books home.publisher slot)) home.subscriber) home.book
+    IsMidway f new (subscriber_pruned (unborrowed (state_of (kept_of f)) home.publisher home.subscriber (number_in_slot f.books home.publisher slot)) home.subscriber) home.book
 
 -- a subscriber that the state has stands somewhere
 subscriber-there : {T U : Type 0} (f : Fields T U) (q : ℕ) (y : Subscriber) → (state_of (kept_of f)).subscribers q ≡ Some y
@@ -63,15 +63,15 @@ module _ {T U : Type 0} (f : Fields T U) (sound : IsDomain f) (key slot : ℕ) (
   its-book : IsBookOf f.books c.home.publisher c.home.book
   its-book = sound.parts.names.at key c own.1
 
-  box-is : (state_of (kept_of f)).mailboxes c.home.publisher c.home.subscriber ≡ mailbox_of (numbers_of f.books c.home.publisher) c
-  box-is = mailboxes-are f c.home.publisher c.home.subscriber ∙ mailbox-there (numbers_of f.books) f.connections key c.home.publisher c.home.subscriber c sound.parts.apart own.1 refl refl
+  box-is : (state_of (kept_of f)).mailboxes c.home.publisher c.home.subscriber ≡ mailbox_of (number_in_slot f.books c.home.publisher) c
+  box-is = mailboxes-are f c.home.publisher c.home.subscriber ∙ mailbox-there (number_in_slot f.books) f.connections key c.home.publisher c.home.subscriber c sound.parts.apart own.1 refl refl
 
-  held : is_borrowed (numbers_of f.books c.home.publisher slot) ((state_of (kept_of f)).mailboxes c.home.publisher c.home.subscriber) ≡ true
-  held = ap (is_borrowed (numbers_of f.books c.home.publisher slot)) box-is ∙ contains-one (numbers_of f.books c.home.publisher) c.borrowed slot own.2.1
+  held : is_borrowed (number_in_slot f.books c.home.publisher slot) ((state_of (kept_of f)).mailboxes c.home.publisher c.home.subscriber) ≡ true
+  held = ap (is_borrowed (number_in_slot f.books c.home.publisher slot)) box-is ∙ contains-one (number_in_slot f.books c.home.publisher) c.borrowed slot own.2.1
 
   once : IsOnce c.borrowed
   once =
-      IsOnce-map (numbers_of f.books c.home.publisher) c.borrowed
+      IsOnce-map (number_in_slot f.books c.home.publisher) c.borrowed
       (subst (λ (b : Mailbox). IsOnce b.borrowed) box-is (once-borrowed ((state_of (kept_of f)).mailboxes c.home.publisher c.home.subscriber) (sound.well_formed.mailboxes c.home.publisher c.home.subscriber).within.once))
 
   -- no slot is borrowed there twice
@@ -96,7 +96,7 @@ module _ {T U : Type 0} (f : Fields T U) (sound : IsDomain f) (key slot : ℕ) (
   pub subscriber-here : ItsSubscriber f home
   subscriber-here = subst (ItsSubscriber f) own.2.0 (z, ap (λ (n : ℕ). get_or f.subscribers n None) (sym place) ∙ at_z, is_z) where
     machine : (y : Subscriber) × ((state_of (kept_of f)).subscribers c.home.subscriber ≡ Some y) × ((contains y.expired c.home.publisher ≡ true) ⊎ LeadsTo y.ends c.home.publisher)
-    machine = (sound.well_formed.mailboxes c.home.publisher c.home.subscriber).receiver_end (has_borrows-is_borrowed (numbers_of f.books c.home.publisher slot) ((state_of (kept_of f)).mailboxes c.home.publisher c.home.subscriber) held)
+    machine = (sound.well_formed.mailboxes c.home.publisher c.home.subscriber).receiver_end (has_borrows-is_borrowed (number_in_slot f.books c.home.publisher slot) ((state_of (kept_of f)).mailboxes c.home.publisher c.home.subscriber) held)
 
     z : SubscriberFields
     z = (subscriber-there f c.home.subscriber machine.0 machine.1).1
@@ -138,15 +138,15 @@ module _ {T U : Type 0} (f : Fields T U) (sound : IsDomain f) (key slot : ℕ) (
   pub lets-go : (b : Book) → get f.books home.book ≡ Some b → (new : Slab Link) → ReleasesSlot f.connections key slot new
       → IsSomeAnd (get f.connections key) (λ (d : Link). Recounts d.home.publisher b.holders f.connections (one_holder_less slot b.holders) new)
       → look_up (is_publisher home.publisher) f.publishers ≡ None → KeepsBooks f.next_port f.publishers f.books
-      → IsMidway f (less b new) (unborrowed (state_of (kept_of f)) home.publisher home.subscriber (numbers_of f.books home.publisher slot)) home.book
+      → IsMidway f (less b new) (unborrowed (state_of (kept_of f)) home.publisher home.subscriber (number_in_slot f.books home.publisher slot)) home.book
   lets-go b at_b new releases recounts gone kept =
       subst (λ (h : Home). get f.books h.book ≡ Some b → look_up (is_publisher h.publisher) f.publishers ≡ None
       → IsMidway f (record f { connections = new; books = with_value f.books h.book (with_counters b (one_holder_less slot b.holders)) })
-      (unborrowed (state_of (kept_of f)) h.publisher h.subscriber (numbers_of f.books h.publisher slot)) h.book) own.2.0 by at_b gone
+      (unborrowed (state_of (kept_of f)) h.publisher h.subscriber (number_in_slot f.books h.publisher slot)) h.book) own.2.0 by at_b gone
     where
       by : get f.books c.home.book ≡ Some b → look_up (is_publisher c.home.publisher) f.publishers ≡ None
           → IsMidway f (record f { connections = new; books = with_value f.books c.home.book (with_counters b (one_holder_less slot b.holders)) })
-          (unborrowed (state_of (kept_of f)) c.home.publisher c.home.subscriber (numbers_of f.books c.home.publisher slot)) c.home.book
+          (unborrowed (state_of (kept_of f)) c.home.publisher c.home.subscriber (number_in_slot f.books c.home.publisher slot)) c.home.book
       by at_own gone_own =
           let one : Some its-book.book ≡ Some b = sym its-book.stands ∙ at_own in
           let is : its-book.book ≡ b = cc in
@@ -159,7 +159,7 @@ module _ {T U : Type 0} (f : Fields T U) (sound : IsDomain f) (key slot : ℕ) (
 
 -- the slot has one holder less in these fields, and its publisher is gone
 pub record IsLetGo {T U : Type 0} (now : Fields T U) (key slot : ℕ) (home : Home) (mid : Fields T U) : Type 0 where
-  pub midway : IsMidway now mid (unborrowed (state_of (kept_of now)) home.publisher home.subscriber (numbers_of now.books home.publisher slot)) home.book
+  pub midway : IsMidway now mid (unborrowed (state_of (kept_of now)) home.publisher home.subscriber (number_in_slot now.books home.publisher slot)) home.book
   pub home_is : IsSomeAnd (get mid.connections key) (λ (d : Link). d.home ≡ home)
   pub gone : look_up (is_publisher home.publisher) mid.publishers ≡ None
   pub stands : ItsSubscriber mid home

@@ -21,7 +21,7 @@ use Rattle.iox2_laws.proofs.MailboxLemmas.{has_numbers-waiting}
 use Rattle.iox2_laws.proofs.NumberLemmas.{contains_left, contains_right, all_pass}
 use Rattle.iox2_laws.proofs.PlaceLemmas.{contains-occupants, leads_to}
 use Rattle.iox2_domain.specs.Departures.{BorrowsNothing, BorrowsSome, IsUnshared, KnowsKey}
-use Rattle.iox2_domain.specs.Fields.{Fields, kept_of, numbers_of, subscriber_of}
+use Rattle.iox2_domain.specs.Fields.{Fields, kept_of, number_in_slot, subscriber_of}
 use Rattle.iox2_domain.specs.Invariant.{SenderHas, HasParts}
 use Rattle.iox2_domain.specs.Kept.{state_of}
 use Rattle.iox2_domain.specs.Midway.{IsMidway, with_channels_of}
@@ -72,9 +72,9 @@ module _ {T U : Type 0} (f : Fields T U) (parts : HasParts f) (j : ℕ) (y : Sub
   unused-is : is_unused t y.id ≡ Unused
   unused-is = ap (λ (o : Option Subscriber). option_map_or (λ (z : Subscriber). not z.is_open && list_all (λ p. not (has_borrows (t.mailboxes p y.id))) (connected_publishers z)) o false) here
 
-  its-box : (key : ℕ) (c : Link) → get f.connections key ≡ Some c → c.home.subscriber ≡ y.id → t.mailboxes c.home.publisher y.id ≡ mailbox_of (numbers_of f.books c.home.publisher) c
+  its-box : (key : ℕ) (c : Link) → get f.connections key ≡ Some c → c.home.subscriber ≡ y.id → t.mailboxes c.home.publisher y.id ≡ mailbox_of (number_in_slot f.books c.home.publisher) c
   its-box key c at_c mine =
-      mailboxes-are f c.home.publisher y.id ∙ mailbox-there (numbers_of f.books) f.connections key c.home.publisher y.id c parts.apart at_c refl mine
+      mailboxes-are f c.home.publisher y.id ∙ mailbox-there (number_in_slot f.books) f.connections key c.home.publisher y.id c parts.apart at_c refl mine
 
   -- an open subscriber isn't unused
   pub open-used : y.is_open ≡ true → is_unused t y.id ≡ false
@@ -83,7 +83,7 @@ module _ {T U : Type 0} (f : Fields T U) (parts : HasParts f) (j : ℕ) (y : Sub
   -- no mailbox of it has borrowed messages
   no-borrows : BorrowsNowhere f.connections y.id → (p : ℕ) → has_borrows (t.mailboxes p y.id) ≡ false
   no-borrows nothing p = ap has_borrows (mailboxes-are f p y.id) ∙ by (look_up (is_between p y.id) f.connections.slots) refl where
-    by : (o : Option Link) → look_up (is_between p y.id) f.connections.slots ≡ o → has_borrows (mailbox_if_any (numbers_of f.books p) o) ≡ false
+    by : (o : Option Link) → look_up (is_between p y.id) f.connections.slots ≡ o → has_borrows (mailbox_if_any (number_in_slot f.books p) o) ≡ false
     by None e = refl
     by (Some c) e =
         let there = look_up-there (is_between p y.id) f.connections.slots c e in
@@ -101,7 +101,7 @@ module _ {T U : Type 0} (f : Fields T U) (parts : HasParts f) (j : ℕ) (y : Sub
     pub borrower-used : BorrowsSome f.connections y.id → is_unused t y.id ≡ false
     borrower-used some = false_from_ne_true (is_unused t y.id) (λ unused.
         let p : ℕ = (some.connection).home.publisher in
-        let has : has_borrows (t.mailboxes p y.id) ≡ true = ap has_borrows (its-box some.key some.connection some.stands some.its) ∙ some-mapped (numbers_of f.books p) (some.connection).borrowed some.some in
+        let has : has_borrows (t.mailboxes p y.id) ≡ true = ap has_borrows (its-box some.key some.connection some.stands some.its) ∙ some-mapped (number_in_slot f.books p) (some.connection).borrowed some.some in
         let knows = (boxes p).receiver_end has in
         let its = same-port knows.0 knows.1 in
         let both = both-true (not y.is_open) (list_all (λ r. not (has_borrows (t.mailboxes r y.id))) (connected_publishers port)) (sym unused-is ∙ unused) in
@@ -116,7 +116,7 @@ module _ {T U : Type 0} (f : Fields T U) (parts : HasParts f) (j : ℕ) (y : Sub
     borrower-knows : (key : ℕ) (c : Link) → get f.connections key ≡ Some c → c.home.subscriber ≡ y.id → not (is_nil c.borrowed) ≡ true → KnowsKey y key
     borrower-knows key c at_c mine some =
         let p : ℕ = c.home.publisher in
-        let has : has_borrows (t.mailboxes p y.id) ≡ true = ap has_borrows (its-box key c at_c mine) ∙ some-mapped (numbers_of f.books p) c.borrowed some in
+        let has : has_borrows (t.mailboxes p y.id) ≡ true = ap has_borrows (its-box key c at_c mine) ∙ some-mapped (number_in_slot f.books p) c.borrowed some in
         let knows = (boxes p).receiver_end has in
         elim (rw (same-port knows.0 knows.1) at knows.2) [
           | inl expired ↦
@@ -157,7 +157,7 @@ module _ {T U : Type 0} (f : Fields T U) (parts : HasParts f) (j : ℕ) (y : Sub
 
         drained : (c.others ≡ []) × (c.waiting ≡ [])
         drained =
-            none-waiting (numbers_of f.books c.home.publisher) c.others c.waiting
+            none-waiting (number_in_slot f.books c.home.publisher) c.others c.waiting
             (sym (ap has_waiting (its-box key c at_c alone.subscriber_is)) ∙ false_from_ne_true (has_waiting (t.mailboxes c.home.publisher y.id)) waits)
 
   -- ---- midway

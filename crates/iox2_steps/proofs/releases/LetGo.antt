@@ -13,7 +13,7 @@ use Rattle.iox2_connections.specs.Recounts.{Recounts}
 use Rattle.iox2_connections.specs.Takes.{ReleasesSlot}
 use Rattle.iox2_connections.proofs.Counts.{get_or-one_holder_less, one_if}
 use Rattle.iox2_domain.specs.Kept.{state_of}
-use Rattle.iox2_domain.specs.Fields.{Fields, kept_of, numbers_of}
+use Rattle.iox2_domain.specs.Fields.{Fields, kept_of, number_in_slot}
 use Rattle.iox2_domain.specs.Invariant.{IsDomain, KeepsBooks, KeepsBooksBut, IsOwned, IsGone, is_publisher, HasParts}
 use Rattle.iox2_domain.specs.Midway.{IsMidway}
 use Rattle.iox2_steps.proofs.releases.Released.{unborrowed_here, unborrows, numbers-were}
@@ -62,7 +62,7 @@ module _ {T U : Type 0} (f : Fields T U) (sound : IsDomain f) (key slot : ℕ) (
     others = λ k d away at_d. kept.at k d (sym (book-others f c.home.book b after at_b keeps k away) ∙ at_d);
   }
 
-  module _ (releases : ReleasesSlot f.connections key slot new) (held : is_borrowed (numbers_of f.books p slot) ((state_of (kept_of f)).mailboxes p c.home.subscriber) ≡ true) where
+  module _ (releases : ReleasesSlot f.connections key slot new) (held : is_borrowed (number_in_slot f.books p slot) ((state_of (kept_of f)).mailboxes p c.home.subscriber) ≡ true) where
     -- the machine's subscriber has borrowed the message no more
     pub let_go-is : state_of (kept_of let_go) ≡ unborrowed_here f sound key slot c at_c new releases held
     let_go-is = counts.recounted-is f sound p c.home.book b at_b its (one_holder_less slot b.holders) new r ∙ unborrows f sound key slot c at_c new releases held
@@ -77,7 +77,7 @@ module _ {T U : Type 0} (f : Fields T U) (sound : IsDomain f) (key slot : ℕ) (
       entries = counts.recounted-entries f sound p c.home.book b at_b its (one_holder_less slot b.holders) new r;
       places = counts.recounted-places f sound p c.home.book b at_b its (one_holder_less slot b.holders) new r;
       complete = λ q n is_held.
-          let old = sound.entries q n (held-within (state_of (kept_of f)) (mailboxes_of (numbers_of f.books) new) q n (λ k. numbers-were f sound key slot c at_c new releases held q k n)
+          let old = sound.entries q n (held-within (state_of (kept_of f)) (mailboxes_of (number_in_slot f.books) new) q n (λ k. numbers-were f sound key slot c at_c new releases held q k n)
           (subst (λ (s : State T U). IsHeldMessage s q n) (let_go-is ∙ sym (unborrows f sound key slot c at_c new releases held)) is_held)) in
           (old.0, counts.recounted-keeps f sound p c.home.book b at_b its (one_holder_less slot b.holders) new r q n old.0 is_held old.1, old.2);
     }

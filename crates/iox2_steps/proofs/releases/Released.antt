@@ -17,7 +17,7 @@ use Rattle.iox2_laws.proofs.NumberLemmas.{IsOnce-right}
 use Rattle.iox2_laws.proofs.ReleaseLaws.{at_each_mailbox}
 use Rattle.iox2_domain.specs.Ports.{PublisherFields}
 use Rattle.iox2_domain.specs.Kept.{state_of}
-use Rattle.iox2_domain.specs.Fields.{Fields, kept_of, numbers_of}
+use Rattle.iox2_domain.specs.Fields.{Fields, kept_of, number_in_slot}
 use Rattle.iox2_domain.proofs.lemmas.fields.KeptBooks.{kept-but}
 use Rattle.iox2_domain.specs.Invariant.{IsDomain, KeepsBooks, SenderHas}
 use Rattle.iox2_domain.specs.Midway.{IsMidway}
@@ -37,26 +37,26 @@ once-borrowed box once = IsOnce-right box.waiting box.borrowed (IsOnce-right (ot
 
 module _ {T U : Type 0} (f : Fields T U) (sound : IsDomain f) (key slot : ℕ) (c : Link) (at_c : get f.connections key ≡ Some c) (new : Slab Link)
     (releases : ReleasesSlot f.connections key slot new)
-    (held : is_borrowed (numbers_of f.books c.home.publisher slot) ((state_of (kept_of f)).mailboxes c.home.publisher c.home.subscriber) ≡ true) where
+    (held : is_borrowed (number_in_slot f.books c.home.publisher slot) ((state_of (kept_of f)).mailboxes c.home.publisher c.home.subscriber) ≡ true) where
   -- the message in the slot
   abbrev pub number_released : ℕ
-  number_released = numbers_of f.books c.home.publisher slot
+  number_released = number_in_slot f.books c.home.publisher slot
 
   -- the state in which it is borrowed no more
   abbrev pub unborrowed_here : State T U
   unborrowed_here = unborrowed (state_of (kept_of f)) c.home.publisher c.home.subscriber number_released
 
   -- the mailboxes change as the machine's do
-  pub unborrows : with_all_mailboxes (state_of (kept_of f)) (mailboxes_of (numbers_of f.books) new) ≡ unborrowed_here
+  pub unborrows : with_all_mailboxes (state_of (kept_of f)) (mailboxes_of (number_in_slot f.books) new) ≡ unborrowed_here
   unborrows =
       subst (λ (boxes : ℕ → ℕ → Mailbox). IsOnce (boxes c.home.publisher c.home.subscriber).borrowed
-      → with_all_mailboxes (state_of (kept_of f)) (mailboxes_of (numbers_of f.books) new)
+      → with_all_mailboxes (state_of (kept_of f)) (mailboxes_of (number_in_slot f.books) new)
       ≡ with_all_mailboxes (state_of (kept_of f)) (with_box boxes c.home.publisher c.home.subscriber (with_released number_released (boxes c.home.publisher c.home.subscriber))))
-      (boxes-are f) (λ once. ap (with_all_mailboxes (state_of (kept_of f))) (releases.releases c at_c (numbers_of f.books) once))
+      (boxes-are f) (λ once. ap (with_all_mailboxes (state_of (kept_of f))) (releases.releases c at_c (number_in_slot f.books) once))
       (once-borrowed ((state_of (kept_of f)).mailboxes c.home.publisher c.home.subscriber) (sound.well_formed.mailboxes c.home.publisher c.home.subscriber).within.once)
 
   -- no number is new in a mailbox
-  pub numbers-were : (p q n : ℕ) → contains (numbers_in (mailboxes_of (numbers_of f.books) new p q)) n ≡ true → contains (numbers_in ((state_of (kept_of f)).mailboxes p q)) n ≡ true
+  pub numbers-were : (p q n : ℕ) → contains (numbers_in (mailboxes_of (number_in_slot f.books) new p q)) n ≡ true → contains (numbers_in ((state_of (kept_of f)).mailboxes p q)) n ≡ true
   numbers-were p q n =
       subst (λ (boxes : ℕ → ℕ → Mailbox). contains (numbers_in (boxes p q)) n ≡ true → contains (numbers_in ((state_of (kept_of f)).mailboxes p q)) n ≡ true)
       (sym (ap (λ (s : State T U). s.mailboxes) unborrows))

@@ -30,9 +30,9 @@ use Rattle.iox2_connections.proofs.DeliverySteps.{there}
 use Rattle.iox2_laws.proofs.BegunSends.{begun, begun_send, begun_keeps, begun_goes_on}
 use Rattle.iox2_laws.proofs.Puts.{found_put, put_at-same}
 use Rattle.iox2_domain.specs.BlockedSends.{CanGoOn, GoesOn}
-use Rattle.iox2_domain.specs.ConnectionSends.{begun_at, begun_delivery, with_begun, SendsLoanTo}
-use Rattle.iox2_domain.specs.Deliveries.{with_sent, result_of_send}
-use Rattle.iox2_domain.specs.Fields.{Fields, kept_of, publisher_of, numbers_of, within_reach}
+use Rattle.iox2_domain.specs.ConnectionSends.{begun_at, begun_delivery, with_begun, SendsKeptLoanTo}
+use Rattle.iox2_domain.specs.Deliveries.{with_sent, result_of_delivery}
+use Rattle.iox2_domain.specs.Fields.{Fields, kept_of, publisher_of, number_in_slot, within_reach}
 use Rattle.iox2_domain.specs.Invariant.{IsDomain, IsOwned, HasParts, HasNumber, HasLoneLoans, KeepsBooks, cell_count}
 use Rattle.iox2_domain.specs.Kept.{KeptMessage, Lent_message, state_of, entries_of, entry_in}
 use Rattle.iox2_domain.specs.Ports.{PublisherFields}
@@ -207,7 +207,7 @@ module _ {T U : Type 0} (f : Fields T U) (sound : IsDomain f) (i : ℕ) (x : Pub
 
   module _ (environment : Environment) (f1 : Fields T U) (reclaimed : Reaches after f1 (state_of (kept_of after))) (stands1 : get_or f1.publishers i None ≡ Some waiter) (can : CanGoOn waiter w (begun_at connection)) (outcome : DeliveryOutcome) (f2 : Fields T U)
       (goes : GoesOn environment f1 i waiter w (begun_at connection) no_time outcome f2) where
-    went : ConcludesAs environment f1 f2 waiter (numbers_of f1.books x.id slot) channel (within_reach w x.keys) (begun_at connection) no_time (result_of_send outcome)
+    went : ConcludesAs environment f1 f2 waiter (number_in_slot f1.books x.id slot) channel (within_reach w x.keys) (begun_at connection) no_time (result_of_delivery outcome)
     went = goes-on environment f1 reclaimed.agrees i waiter stands1 w refl (begun_at connection) can no_time outcome f2 goes
 
     state1 : state_of (kept_of f1) ≡ begun (seen f) x.id n waits
@@ -218,7 +218,7 @@ module _ {T U : Type 0} (f : Fields T U) (sound : IsDomain f) (i : ℕ) (x : Pub
     port1 = same_Some _ _ (sym (publisher-stands f1 reclaimed.agrees.parts i waiter stands1) ∙ ap (λ (t : State T U). t.publishers x.id) state1
         ∙ put_at-same (seen f).publishers x.id (option_map (λ (v : Publisher). record v { blocked = Some waits }) ((seen f).publishers x.id)) ∙ ap (option_map (λ (v : Publisher). record v { blocked = Some waits })) (publisher-stands f sound.parts i x here))
 
-    number1 : numbers_of f1.books x.id slot ≡ n
+    number1 : number_in_slot f1.books x.id slot ≡ n
     number1 = ap (λ (v : Publisher). option_map_or (λ (c : BlockedSend). c.message) v.blocked 0) port1
 
     ends1 : drop connection (sender_ends f1.connections (within_reach w x.keys)) ≡ take 1 (drop connection (seen_publisher f x).ends)
@@ -230,19 +230,19 @@ module _ {T U : Type 0} (f : Fields T U) (sound : IsDomain f) (i : ℕ) (x : Pub
     its : l.publisher ≡ x.id
     its = loan-of f sound i x here slot n l lies
 
-    sends : SendToConnection environment (seen f) n l channel connection (state_of (kept_of f2)) (result_of_send outcome)
-    sends = begun_goes_on environment (seen f) n l channel connection (seen_publisher f x) (ap (seen f).publishers its ∙ (publisher-stands f sound.parts i x here)) (state_of (kept_of f2)) (result_of_send outcome)
+    sends : SendToConnection environment (seen f) n l channel connection (state_of (kept_of f2)) (result_of_delivery outcome)
+    sends = begun_goes_on environment (seen f) n l channel connection (seen_publisher f x) (ap (seen f).publishers its ∙ (publisher-stands f sound.parts i x here)) (state_of (kept_of f2)) (result_of_delivery outcome)
         (subst (λ (p : ℕ). DeliverAndConclude environment (begun (seen f) p n waits) p
         (sending n channel 0 connection (take 1 (drop connection (seen_publisher f x).ends)) 0 false) no_time
-        (state_of (kept_of f2)) (result_of_send outcome)) (sym its)
+        (state_of (kept_of f2)) (result_of_delivery outcome)) (sym its)
         (subst (λ (t : State T U). DeliverAndConclude environment t x.id
         (sending n channel 0 connection (take 1 (drop connection (seen_publisher f x).ends)) 0 false) no_time
-        (state_of (kept_of f2)) (result_of_send outcome)) state1
+        (state_of (kept_of f2)) (result_of_delivery outcome)) state1
         (subst (λ (ends : List (Option ℕ)). DeliverAndConclude environment (state_of (kept_of f1)) x.id
-        (sending n channel 0 connection ends 0 false) no_time (state_of (kept_of f2)) (result_of_send outcome)) ends1
+        (sending n channel 0 connection ends 0 false) no_time (state_of (kept_of f2)) (result_of_delivery outcome)) ends1
         (subst (λ (m : ℕ). DeliverAndConclude environment (state_of (kept_of f1)) x.id
         (sending m channel 0 connection (drop connection (sender_ends f1.connections (within_reach w x.keys))) 0 false)
-        no_time (state_of (kept_of f2)) (result_of_send outcome)) number1
+        no_time (state_of (kept_of f2)) (result_of_delivery outcome)) number1
         went.concludes))))
 
     -- no entry but that of the message is newly kept
@@ -250,12 +250,12 @@ module _ {T U : Type 0} (f : Fields T U) (sound : IsDomain f) (i : ℕ) (x : Pub
     entries-new m entry e = ended-entries f sound.parts i x here b at own slot n l is_in_use lies is_written once free m entry (reclaimed.entries m entry (went.entries m entry e))
 
     -- nothing but a handler fails it
-    fails : (o : DeliveryOutcome) (error : SendError) → error ≢ UnableToDeliver → result_of_send o ≡ Send_error error → ⊥
+    fails : (o : DeliveryOutcome) (error : SendError) → error ≢ UnableToDeliver → result_of_delivery o ≡ Send_error error → ⊥
     fails (DeliveryOutcome.Suspended progress) error other failed = absurd (let no : Blocked_send ≡ Send_error error = failed in cc)
     fails (DeliveryOutcome.Complete count true) error other failed = other (let same : Send_error UnableToDeliver ≡ Send_error error = failed in cc)
     fails (DeliveryOutcome.Complete count false) error other failed = absurd (let no : Delivered_to count ≡ Send_error error = failed in cc)
 
-    pub begun-sends : SendsLoanTo environment f f2 n channel connection (result_of_send outcome)
+    pub begun-sends : SendsKeptLoanTo environment f f2 n channel connection (result_of_delivery outcome)
     begun-sends = record {
       loan = l;
       out = loan;

@@ -27,10 +27,10 @@ use Rattle.iox2_laws.proofs.PlaceLemmas.{occupied_within}
 use Rattle.iox2_domain.specs.declared.publisher_state.BlockedDelivery.{BlockedDelivery}
 use Rattle.iox2_domain.specs.Ports.{PublisherFields}
 use Rattle.iox2_domain.specs.Kept.{state_of}
-use Rattle.iox2_domain.specs.Fields.{Fields, kept_of, publisher_of, numbers_of, within_reach, blocked_send}
+use Rattle.iox2_domain.specs.Fields.{Fields, kept_of, publisher_of, number_in_slot, within_reach, blocked_send}
 use Rattle.iox2_domain.specs.Invariant.{IsDomain}
 use Rattle.iox2_domain.specs.Reaches.{Reaches}
-use Rattle.iox2_domain.specs.Deliveries.{result_of_send}
+use Rattle.iox2_domain.specs.Deliveries.{result_of_delivery}
 use Rattle.iox2_domain.specs.BlockedSends.{CanGoOn, GoesOn, RetriesAs, GivesUpAs, waiting_send}
 use Rattle.iox2_domain.proofs.lemmas.fields.ConnectionEnds.{publisher-stands}
 use Rattle.iox2_domain.proofs.lemmas.slots.PublisherBooks.{book-counts}
@@ -49,7 +49,7 @@ module _ {T U : Type 0} (f : Fields T U) (sound : IsDomain f) (i : ℕ) (x : Pub
   stands = publisher-stands f sound.parts i x here
 
   well : BlockedIsWellFormed (state_of (kept_of f)) x.id port (waiting_send f x w)
-  well = (sound.well_formed.publishers x.id port stands).blocked (waiting_send f x w) (ap (option_map (blocked_send (numbers_of f.books x.id) (sender_ends f.connections x.keys))) waits)
+  well = (sound.well_formed.publishers x.id port stands).blocked (waiting_send f x w) (ap (option_map (blocked_send (number_in_slot f.books x.id) (sender_ends f.connections x.keys))) waits)
 
   -- it waits at one of its publisher's places, and no more receivers took it
   pub waits-within : ((w.progress).place < length x.keys) × ((w.progress).count ≤ (w.progress).place)
@@ -80,7 +80,7 @@ module _ {T U : Type 0} (f : Fields T U) (sound : IsDomain f) (i : ℕ) (x : Pub
   }
 
   pub waits-once : times w.slot x.loans ≤ 1
-  waits-once = once-times (numbers_of f.books x.id) w.slot x.loans (sound.well_formed.publishers x.id port stands).loans_once
+  waits-once = once-times (number_in_slot f.books x.id) w.slot x.loans (sound.well_formed.publishers x.id port stands).loans_once
 
   module _ (b : Book) (at : get f.books x.book ≡ Some b) where
     -- its publisher holds the slot itself
@@ -108,45 +108,45 @@ module _ {T U : Type 0} (environment : Environment) (f0 f1 f2 : Fields T U) (sou
       let ports : (publisher_of f1.books f1.connections x).port ≡ (publisher_of f0.books f0.connections x).port =
       same_Some _ _ (sym (publisher-stands f1 reclaimed.agrees.parts i x now) ∙ ap (λ (s : State T U). s.publishers x.id) reclaimed.state ∙ publisher-stands f0 sound0.parts i x before) in
       same_Some _ _
-      (sym (ap (option_map (blocked_send (numbers_of f1.books x.id) (sender_ends f1.connections x.keys))) waits)
+      (sym (ap (option_map (blocked_send (number_in_slot f1.books x.id) (sender_ends f1.connections x.keys))) waits)
       ∙ ap (λ (p : Publisher). p.blocked) ports
-      ∙ ap (option_map (blocked_send (numbers_of f0.books x.id) (sender_ends f0.connections x.keys))) waits)
+      ∙ ap (option_map (blocked_send (number_in_slot f0.books x.id) (sender_ends f0.connections x.keys))) waits)
 
   module _ (outcome : DeliveryOutcome) where
     -- it was tried again
     pub retries-as : (elapsed : Duration) → (start : Progress) → start ≡ record w.progress { retries = more_retries (w.progress).retries }
-        → GoesOn environment f1 i x w start elapsed outcome f2 → RetriesAs environment f0 f2 x w elapsed (result_of_send outcome)
+        → GoesOn environment f1 i x w start elapsed outcome f2 → RetriesAs environment f0 f2 x w elapsed (result_of_delivery outcome)
     retries-as elapsed start is goes = record {
       agrees = went.agrees;
-      retries = subst (λ (c : BlockedSend). Retry environment (state_of (kept_of f0)) x.id c elapsed (state_of (kept_of f2)) (result_of_send outcome)) waiting-same
-          (subst (λ (s : State T U). Retry environment s x.id (waiting_send f1 x w) elapsed (state_of (kept_of f2)) (result_of_send outcome)) reclaimed.state
+      retries = subst (λ (c : BlockedSend). Retry environment (state_of (kept_of f0)) x.id c elapsed (state_of (kept_of f2)) (result_of_delivery outcome)) waiting-same
+          (subst (λ (s : State T U). Retry environment s x.id (waiting_send f1 x w) elapsed (state_of (kept_of f2)) (result_of_delivery outcome)) reclaimed.state
           (subst (λ (ends : List (Option ℕ)). DeliverAndConclude environment (state_of (kept_of f1)) x.id
-          (sending (numbers_of f1.books x.id w.slot) w.channel (more_retries (w.progress).retries) (w.progress).place
+          (sending (number_in_slot f1.books x.id w.slot) w.channel (more_retries (w.progress).retries) (w.progress).place
           (drop (w.progress).place ends) (w.progress).count (w.progress).has_failed) elapsed
-          (state_of (kept_of f2)) (result_of_send outcome)) (reach-ends f1.connections w x.keys) went.concludes));
+          (state_of (kept_of f2)) (result_of_delivery outcome)) (reach-ends f1.connections w x.keys) went.concludes));
       entries = λ m entry e. reclaimed.entries m entry (went.entries m entry e);
       places = places-then reclaimed.places went.places;
     } where
-      went : ConcludesAs environment f1 f2 x (numbers_of f1.books x.id w.slot) w.channel (within_reach w x.keys) (record w.progress { retries = more_retries (w.progress).retries }) elapsed (result_of_send outcome)
+      went : ConcludesAs environment f1 f2 x (number_in_slot f1.books x.id w.slot) w.channel (within_reach w x.keys) (record w.progress { retries = more_retries (w.progress).retries }) elapsed (result_of_delivery outcome)
       went = goes-on environment f1 reclaimed.agrees i x now w waits (record w.progress { retries = more_retries (w.progress).retries })
           (can-retry f1 reclaimed.agrees i x now w waits (record w.progress { retries = more_retries (w.progress).retries }) refl refl) elapsed outcome f2
           (subst (λ (v : Progress). GoesOn environment f1 i x w v elapsed outcome f2) is goes)
 
     -- it was given up there
     pub gives-up-as : (start : Progress) → start ≡ record w.progress { place = (w.progress).place + 1; retries = 0 }
-        → GoesOn environment f1 i x w start no_time outcome f2 → GivesUpAs environment f0 f2 x w (result_of_send outcome)
+        → GoesOn environment f1 i x w start no_time outcome f2 → GivesUpAs environment f0 f2 x w (result_of_delivery outcome)
     gives-up-as start is goes = record {
       agrees = went.agrees;
-      gives_up = subst (λ (c : BlockedSend). GiveUp environment (state_of (kept_of f0)) x.id c (state_of (kept_of f2)) (result_of_send outcome)) waiting-same
-          (subst (λ (s : State T U). GiveUp environment s x.id (waiting_send f1 x w) (state_of (kept_of f2)) (result_of_send outcome)) reclaimed.state
+      gives_up = subst (λ (c : BlockedSend). GiveUp environment (state_of (kept_of f0)) x.id c (state_of (kept_of f2)) (result_of_delivery outcome)) waiting-same
+          (subst (λ (s : State T U). GiveUp environment s x.id (waiting_send f1 x w) (state_of (kept_of f2)) (result_of_delivery outcome)) reclaimed.state
           (subst (λ (ends : List (Option ℕ)). DeliverAndConclude environment (state_of (kept_of f1)) x.id
-          (sending (numbers_of f1.books x.id w.slot) w.channel 0 ((w.progress).place + 1) ends (w.progress).count
-          (w.progress).has_failed) no_time (state_of (kept_of f2)) (result_of_send outcome))
+          (sending (number_in_slot f1.books x.id w.slot) w.channel 0 ((w.progress).place + 1) ends (w.progress).count
+          (w.progress).has_failed) no_time (state_of (kept_of f2)) (result_of_delivery outcome))
           (ap (drop ((w.progress).place + 1)) (reach-ends f1.connections w x.keys) ∙ sym (drop-drop 1 (w.progress).place (within_reach w (sender_ends f1.connections x.keys)))) went.concludes));
       entries = λ m entry e. reclaimed.entries m entry (went.entries m entry e);
       places = places-then reclaimed.places went.places;
     } where
-      went : ConcludesAs environment f1 f2 x (numbers_of f1.books x.id w.slot) w.channel (within_reach w x.keys) (record w.progress { place = (w.progress).place + 1; retries = 0 }) no_time (result_of_send outcome)
+      went : ConcludesAs environment f1 f2 x (number_in_slot f1.books x.id w.slot) w.channel (within_reach w x.keys) (record w.progress { place = (w.progress).place + 1; retries = 0 }) no_time (result_of_delivery outcome)
       went = goes-on environment f1 reclaimed.agrees i x now w waits (record w.progress { place = (w.progress).place + 1; retries = 0 })
           (can-give_up f1 reclaimed.agrees i x now w waits (record w.progress { place = (w.progress).place + 1; retries = 0 }) refl refl) no_time outcome f2
           (subst (λ (v : Progress). GoesOn environment f1 i x w v no_time outcome f2) is goes)

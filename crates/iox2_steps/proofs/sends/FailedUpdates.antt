@@ -12,14 +12,14 @@ use Rattle.iox2_machine.specs.machine.State.{State}
 use Rattle.iox2_machine.specs.declared.errors.ConnectionFailure.{ConnectionFailure}
 use Rattle.iox2_machine.specs.declared.errors.SendError.TheVariants.{ConnectionError}
 use Rattle.iox2_laws.proofs.PublisherUpdates.{update_publisher_leaves}
-use Rattle.iox2_domain.specs.Connects.{UpdatesPublisher}
+use Rattle.iox2_domain.specs.Connects.{UpdatesKeptPublisher}
 use Rattle.iox2_domain.specs.Discards.{DiscardsLoan}
 use Rattle.iox2_domain.specs.Fields.{Fields, kept_of, publisher_of}
 use Rattle.iox2_domain.specs.Invariant.{IsDomain}
 use Rattle.iox2_domain.specs.Kept.{state_of}
 use Rattle.iox2_domain.specs.LoanCalls.{HoldsWritten}
 use Rattle.iox2_domain.specs.Ports.{PublisherFields}
-use Rattle.iox2_domain.specs.SentLoans.{IsNotUpdated, SendsLoan}
+use Rattle.iox2_domain.specs.SentLoans.{IsNotUpdated, SendsKeptLoan}
 use Rattle.iox2_domain.proofs.lemmas.fields.ConnectionEnds.{publisher-stands}
 use Rattle.iox2_laws.proofs.Cases.{match_some}
 use Rattle.iox2_domain.proofs.lemmas.fields.PlacesKept.{places-then}
@@ -32,7 +32,7 @@ module _ {T U : Type 0} (environment : Environment) (f0 : Fields T U) (sound : I
   abbrev s0 : State T U
   s0 = state_of (kept_of f0)
 
-  u : UpdatesPublisher environment f0 place sender f1 (Some failure)
+  u : UpdatesKeptPublisher environment f0 place sender f1 (Some failure)
   u = fails.updated
 
   stands : s0.publishers sender.id ≡ Some ((publisher_of f0.books f0.connections sender).port)
@@ -53,7 +53,7 @@ module _ {T U : Type 0} (environment : Environment) (f0 : Fields T U) (sound : I
   failed-holds = (holds.0, still-out, holds.2)
 
   -- the whole send, where the loan is given back then
-  pub failed-sends : (f2 : Fields T U) → DiscardsLoan f1 f2 n → SendsLoan environment f0 f2 n (Send_error (ConnectionError failure))
+  pub failed-sends : (f2 : Fields T U) → DiscardsLoan f1 f2 n → SendsKeptLoan environment f0 f2 n (Send_error (ConnectionError failure))
   failed-sends f2 d = record {
     loan = holds.0;
     out = holds.1;

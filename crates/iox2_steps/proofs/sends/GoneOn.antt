@@ -36,9 +36,9 @@ use Rattle.iox2_laws.proofs.SendLaws.{delivery_goes_on_keeps, injective_take, in
 use Rattle.iox2_domain.specs.declared.publisher_state.BlockedDelivery.{BlockedDelivery}
 use Rattle.iox2_domain.specs.Ports.{PublisherFields}
 use Rattle.iox2_domain.specs.Kept.{Lent_message, Sent_message, state_of, entries_of}
-use Rattle.iox2_domain.specs.Fields.{Fields, kept_of, publisher_of, numbers_of, message_of, within_reach, blocked_send, contents_at}
+use Rattle.iox2_domain.specs.Fields.{Fields, kept_of, publisher_of, number_in_slot, message_of, within_reach, blocked_send, contents_at}
 use Rattle.iox2_domain.specs.Invariant.{IsDomain, IsOwned, HasParts, HasNumber, is_lent, is_loan_in, HasLoneLoans}
-use Rattle.iox2_domain.specs.Deliveries.{DeliversFrom, result_of_send}
+use Rattle.iox2_domain.specs.Deliveries.{DeliversFrom, result_of_delivery}
 use Rattle.iox2_domain.specs.BlockedSends.{with_outcome, counters_after, CanGoOn, GoesOn}
 use Rattle.iox2_domain.specs.Shows.{KeepsEntries}
 use Rattle.iox2_domain.proofs.lemmas.fields.Views.{mailboxes-are}
@@ -116,14 +116,14 @@ module _ {T U : Type 0} (environment : Environment) (f : Fields T U) (sound : Is
   port = (publisher_of f.books f.connections x).port
 
   abbrev boxes : ℕ → ℕ → Mailbox
-  boxes = mailboxes_of (numbers_of f.books) d.connections
+  boxes = mailboxes_of (number_in_slot f.books) d.connections
 
   abbrev n : ℕ
-  n = numbers_of f.books x.id w.slot
+  n = number_in_slot f.books x.id w.slot
 
   -- what waits, to the machine
   abbrev b : BlockedSend
-  b = blocked_send (numbers_of f.books x.id) (sender_ends f.connections x.keys) w
+  b = blocked_send (number_in_slot f.books x.id) (sender_ends f.connections x.keys) w
 
   -- and where it stops again, at these ends
   abbrev stopped : Progress → List (Option ℕ) → BlockedSend
@@ -141,7 +141,7 @@ module _ {T U : Type 0} (environment : Environment) (f : Fields T U) (sound : Is
   stands = publisher-stands f sound.parts i x here
 
   port-waits : port.blocked ≡ Some b
-  port-waits = ap (option_map (blocked_send (numbers_of f.books x.id) (sender_ends f.connections x.keys))) waits
+  port-waits = ap (option_map (blocked_send (number_in_slot f.books x.id) (sender_ends f.connections x.keys))) waits
 
   -- ---- its slot
 
@@ -149,7 +149,7 @@ module _ {T U : Type 0} (environment : Environment) (f : Fields T U) (sound : Is
   lent = (sound.parts.plain i x here).lent w waits
 
   once : times w.slot x.loans ≤ 1
-  once = once-times (numbers_of f.books x.id) w.slot x.loans (sound.well_formed.publishers x.id port stands).loans_once
+  once = once-times (number_in_slot f.books x.id) w.slot x.loans (sound.well_formed.publishers x.id port stands).loans_once
 
   slot-used : 0 < holders_at d.book w.slot
   slot-used = omega (arith, lent, book-counts f sound.parts i x here d.book d.stands w.slot)
@@ -182,7 +182,7 @@ module _ {T U : Type 0} (environment : Environment) (f : Fields T U) (sound : Is
   used-still = omega (arith, lent, book-counts mid parts i x here book book-stands w.slot)
 
   -- the other slots of loans have other numbers
-  only : (r : ℕ) → 0 < times r x.loans → numbers_of f.books x.id r ≡ n → r ≡ w.slot
+  only : (r : ℕ) → 0 < times r x.loans → number_in_slot f.books x.id r ≡ n → r ≡ w.slot
   only r some is =
       let there = holders-there f x.id r (own-in_use f sound.parts.counted sound.parts.publisher_ids i r x here (omega (arith, some))) in
       (sound.parts.numbered.one there.0 x.book r w.slot n (record { book = there.1; stands = there.2; in_use = there.4; number = there.5 ∙ is }) has).1
@@ -269,7 +269,7 @@ module _ {T U : Type 0} (environment : Environment) (f : Fields T U) (sound : Is
   reach-is : sender_ends f.connections (within_reach w x.keys) ≡ reach
   reach-is = reach-ends f.connections w x.keys
 
-  numbers-are : numbers_of mid.books ≡ numbers_of f.books
+  numbers-are : number_in_slot mid.books ≡ number_in_slot f.books
   numbers-are = same-numbers f sound.parts x.id x.book d.book d.stands own d.holders d.connections d.recounts
 
   ends-are : sender_ends d.connections x.keys ≡ sender_ends f.connections x.keys
@@ -298,7 +298,7 @@ module _ {T U : Type 0} (environment : Environment) (f : Fields T U) (sound : Is
         ends = ends-are t;
         blocked = None;
       })
-      ∙ (λ t. record port { loans = map-without (numbers_of f.books x.id) w.slot n refl x.loans only t; blocked = None })
+      ∙ (λ t. record port { loans = map-without (number_in_slot f.books x.id) w.slot n refl x.loans only t; blocked = None })
   sender-is (DeliveryOutcome.Suspended progress) stays =
       (λ t. record port {
         loans = map (numbers-are t x.id) x.loans;
@@ -319,8 +319,8 @@ module _ {T U : Type 0} (environment : Environment) (f : Fields T U) (sound : Is
   delivers : DeliversSo (s.mailboxes x.id) reach (channel_buffer s x.id w.channel)
   delivers =
       subst (λ (row : ℕ → Mailbox). DeliversSo row reach (channel_buffer s x.id w.channel)) (fun_ext (λ r. sym (mailboxes-are f x.id r)))
-      (subst (λ (ends : List (Option ℕ)). DeliversSo (mailboxes_of (numbers_of f.books) f.connections x.id) ends (channel_buffer s x.id w.channel)) reach-is
-      (subst (DeliversSo (mailboxes_of (numbers_of f.books) f.connections x.id) (sender_ends f.connections (within_reach w x.keys))) (taking-are f x.id w.channel) (d.delivers (numbers_of f.books))))
+      (subst (λ (ends : List (Option ℕ)). DeliversSo (mailboxes_of (number_in_slot f.books) f.connections x.id) ends (channel_buffer s x.id w.channel)) reach-is
+      (subst (DeliversSo (mailboxes_of (number_in_slot f.books) f.connections x.id) (sender_ends f.connections (within_reach w x.keys))) (taking-are f x.id w.channel) (d.delivers (number_in_slot f.books))))
 
   -- it starts within its reach
   within : start.place ≤ length reach
@@ -341,7 +341,7 @@ module _ {T U : Type 0} (environment : Environment) (f : Fields T U) (sound : Is
 
   other-boxes : (q r : ℕ) → q ≢ x.id → boxes q r ≡ s.mailboxes q r
   other-boxes q r away =
-      others-stay (numbers_of f.books) f.connections d.connections x.id q r sound.parts.apart d.recounts.homes d.recounts.others away ∙ sym (mailboxes-are f q r)
+      others-stay (number_in_slot f.books) f.connections d.connections x.id q r sound.parts.apart d.recounts.homes d.recounts.others away ∙ sym (mailboxes-are f q r)
 
   boxes-are : boxes ≡ put_at s.mailboxes x.id (boxes x.id)
   boxes-are = one-put s.mailboxes boxes x.id (λ q away. fun_ext (λ r. other-boxes q r away))
@@ -353,13 +353,13 @@ module _ {T U : Type 0} (environment : Environment) (f : Fields T U) (sound : Is
   -- ---- the machine's step
 
   ends-so : (o : DeliveryOutcome) → state_of (kept_of after) ≡ record s { mailboxes = put_at s.mailboxes x.id (boxes x.id); publishers = put_at s.publishers x.id (option_map (change (end_of n w.channel reach o)) (s.publishers x.id)) }
-      → ConcludeSend (with_mailboxes s x.id (boxes x.id)) x.id n (end_of n w.channel reach o) (state_of (kept_of after)) (result_of_send o)
+      → ConcludeSend (with_mailboxes s x.id (boxes x.id)) x.id n (end_of n w.channel reach o) (state_of (kept_of after)) (result_of_delivery o)
   ends-so (DeliveryOutcome.Complete count has_failed) is = (is, refl)
   ends-so (DeliveryOutcome.Suspended progress) is = (is, refl)
 
   concludes : DeliverAndConclude environment s x.id
       (sending n w.channel start.retries start.place (drop start.place reach) start.count start.has_failed) elapsed
-      (state_of (kept_of after)) (result_of_send outcome)
+      (state_of (kept_of after)) (result_of_delivery outcome)
   concludes = match_some (s.publishers x.id) port ⊥ _ stands (how, boxes x.id, delivers, ends-so outcome after-shown)
 
   -- the ends that remain are some of its publisher's from there on
@@ -377,7 +377,7 @@ module _ {T U : Type 0} (environment : Environment) (f : Fields T U) (sound : Is
       )
 
   well : IsWellFormed (state_of (kept_of after))
-  well = delivery_goes_on_keeps environment s x.id port b start.retries elapsed start.place (drop start.place reach) start.count start.has_failed (state_of (kept_of after)) (result_of_send outcome)
+  well = delivery_goes_on_keeps environment s x.id port b start.retries elapsed start.place (drop start.place reach) start.count start.has_failed (state_of (kept_of after)) (result_of_delivery outcome)
       sound.well_formed stands port-waits from can.counted remained concludes
 
   -- ---- entries
@@ -436,7 +436,7 @@ module _ {T U : Type 0} (environment : Environment) (f : Fields T U) (sound : Is
       )
 
   -- the machine's delivery goes on
-  gone-on : ConcludesAs environment f after x n w.channel (within_reach w x.keys) start elapsed (result_of_send outcome)
+  gone-on : ConcludesAs environment f after x n w.channel (within_reach w x.keys) start elapsed (result_of_delivery outcome)
   gone-on = record {
     agrees = whole_of after parts-after lone-after
         (rebooked-kept mid parts i x changed here book book-stands own counters (can-conclude outcome) owned
@@ -444,7 +444,7 @@ module _ {T U : Type 0} (environment : Environment) (f : Fields T U) (sound : Is
         well entries-after;
     concludes = subst (λ (ends : List (Option ℕ)). DeliverAndConclude environment s x.id
         (sending n w.channel start.retries start.place (drop start.place ends) start.count start.has_failed) elapsed
-        (state_of (kept_of after)) (result_of_send outcome)) (sym reach-is) concludes;
+        (state_of (kept_of after)) (result_of_delivery outcome)) (sym reach-is) concludes;
     entries = λ m entry e. recounted-entries f sound x.id x.book d.book d.stands own d.holders d.connections d.recounts m entry
         (rebooked-entries mid parts i x changed here book book-stands own counters (can-conclude outcome) m entry e);
     places = places-then (recounted-places f sound x.id x.book d.book d.stands own d.holders d.connections d.recounts)
@@ -454,8 +454,8 @@ module _ {T U : Type 0} (environment : Environment) (f : Fields T U) (sound : Is
   -- with the fields that the code makes of those after the delivery
   made-goes-on : (h : Fields T U) (c : Book) → get g.books x.book ≡ Some c
       → h ≡ record g { publishers = slice_set g.publishers i (Some (with_outcome outcome w x)); books = with_value g.books x.book (with_counters c (counters_after outcome w.slot c.holders)) }
-      → ConcludesAs environment f h x n w.channel (within_reach w x.keys) start elapsed (result_of_send outcome)
-  made-goes-on h c there is = subst (λ (k : Fields T U). ConcludesAs environment f k x n w.channel (within_reach w x.keys) start elapsed (result_of_send outcome)) (sym (is
+      → ConcludesAs environment f h x n w.channel (within_reach w x.keys) start elapsed (result_of_delivery outcome)
+  made-goes-on h c there is = subst (λ (k : Fields T U). ConcludesAs environment f k x n w.channel (within_reach w x.keys) start elapsed (result_of_delivery outcome)) (sym (is
       ∙ ap (λ (v : Book). record g { publishers = slice_set g.publishers i (Some (with_outcome outcome w x)); books = with_value g.books x.book (with_counters v (counters_after outcome w.slot v.holders)) }) delivered-book
       ∙ ap (λ (k : Fields T U). record k { publishers = slice_set k.publishers i (Some (with_outcome outcome w x)); books = with_value k.books x.book (with_counters book (counters_after outcome w.slot book.holders)) }) d.delivered)) gone-on
     where
@@ -465,6 +465,6 @@ module _ {T U : Type 0} (environment : Environment) (f : Fields T U) (sound : Is
 -- a blocked delivery that is taken up is the machine's
 pub goes-on : {T U : Type 0} (environment : Environment) (f : Fields T U) (sound : IsDomain f) (i : ℕ) (x : PublisherFields) (here : get_or f.publishers i None ≡ Some x)
     (w : BlockedDelivery) (waits : x.blocked ≡ Some w) (start : Progress) (can : CanGoOn x w start) (elapsed : Duration) (outcome : DeliveryOutcome) (h : Fields T U)
-    → GoesOn environment f i x w start elapsed outcome h → ConcludesAs environment f h x (numbers_of f.books x.id w.slot) w.channel (within_reach w x.keys) start elapsed (result_of_send outcome)
+    → GoesOn environment f i x w start elapsed outcome h → ConcludesAs environment f h x (number_in_slot f.books x.id w.slot) w.channel (within_reach w x.keys) start elapsed (result_of_delivery outcome)
 goes-on environment f sound i x here w waits start can elapsed outcome h goes =
     made-goes-on environment f sound i x here w waits start can elapsed outcome goes.delivered goes.delivers h goes.book goes.stands goes.ended

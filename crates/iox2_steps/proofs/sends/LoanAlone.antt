@@ -14,7 +14,7 @@ use Rattle.iox2_connections.proofs.Counts.{one_if, times-cons, one_if_other}
 use Rattle.iox2_domain.specs.Ports.{PublisherFields}
 use Rattle.iox2_domain.specs.declared.publisher_state.BlockedDelivery.{BlockedDelivery}
 use Rattle.iox2_domain.specs.Kept.{Lent_message, state_of}
-use Rattle.iox2_domain.specs.Fields.{Fields, kept_of, publisher_of, numbers_of, contents_at, blocked_send}
+use Rattle.iox2_domain.specs.Fields.{Fields, kept_of, publisher_of, number_in_slot, contents_at, blocked_send}
 use Rattle.iox2_domain.specs.Invariant.{IsDomain, is_loan_in}
 use Rattle.iox2_domain.proofs.lemmas.fields.ConnectionEnds.{publisher-stands}
 use Rattle.iox2_domain.proofs.lemmas.slots.Messages.{lies_at, message_in-parts, message_at-book, message_at-slot, has_number, loan-found}
@@ -56,10 +56,10 @@ module _ {T U : Type 0} (f : Fields T U) (sound : IsDomain f) (i : ℕ) (x : Pub
       (there.0, there.1, own, loan-publisher there.0 _ slot n l (message_in-parts there.0 _ slot (Lent_message n l) there.2) ∙ own)
 
   -- its slot has its number
-  pub loan-number : numbers_of f.books x.id slot ≡ n
+  pub loan-number : number_in_slot f.books x.id slot ≡ n
   loan-number =
       let has = has_number f.contents f.books x.book slot n (Lent_message n l) lies (eq-eqb n n refl) in
-      ap (λ (p : ℕ). numbers_of f.books p slot) (sym (book-own f sound.parts i x here has.book has.stands))
+      ap (λ (p : ℕ). number_in_slot f.books p slot) (sym (book-own f sound.parts i x here has.book has.stands))
       ∙ number-at f sound x.book slot has.book has.stands ∙ has.number
 
   -- the loan is the state's
@@ -77,7 +77,7 @@ module _ {T U : Type 0} (f : Fields T U) (sound : IsDomain f) (i : ℕ) (x : Pub
   well = sound.well_formed.loans n l loan-is
 
   -- its slot is the one of its publisher's loans that has its number
-  pub loan-slot : (s : ℕ) → 0 < times s x.loans → numbers_of f.books x.id s ≡ n → s ≡ slot
+  pub loan-slot : (s : ℕ) → 0 < times s x.loans → number_in_slot f.books x.id s ≡ n → s ≡ slot
   loan-slot s some is =
       let there = holders-there f x.id s (own-in_use f sound.parts.counted sound.parts.publisher_ids i s x here (omega (arith, some))) in
       (sound.parts.numbered.one there.0 x.book s slot n (record { book = there.1; stands = there.2; in_use = there.4; number = there.5 ∙ is })
@@ -87,18 +87,18 @@ module _ {T U : Type 0} (f : Fields T U) (sound : IsDomain f) (i : ℕ) (x : Pub
   pub blocked-other : (b : BlockedDelivery) → x.blocked ≡ Some b → b.slot ≢ slot
   blocked-other b e same =
       let stands = publisher-stands f sound.parts i x here in
-      let waits : ((publisher_of f.books f.connections x).port).blocked ≡ Some (blocked_send (numbers_of f.books x.id) (sender_ends f.connections x.keys) b) =
-      ap (option_map (blocked_send (numbers_of f.books x.id) (sender_ends f.connections x.keys))) e in
+      let waits : ((publisher_of f.books f.connections x).port).blocked ≡ Some (blocked_send (number_in_slot f.books x.id) (sender_ends f.connections x.keys) b) =
+      ap (option_map (blocked_send (number_in_slot f.books x.id) (sender_ends f.connections x.keys))) e in
       let unheld = ((sound.well_formed.publishers x.id _ stands).blocked _ waits).unheld in
-      let number : numbers_of f.books x.id b.slot ≡ n = ap (numbers_of f.books x.id) same ∙ loan-number in
+      let number : number_in_slot f.books x.id b.slot ≡ n = ap (number_in_slot f.books x.id) same ∙ loan-number in
       absurd (let no : None ≡ Some l = sym unheld ∙ ap (state_of (kept_of f)).loans number ∙ loan-is in cc)
 
   -- it stands there once
   pub loan-once : times slot x.loans ≡ 1
   loan-once =
-      let own = slot_numbered (numbers_of f.books x.id) n x.loans (well.is_out _ standing).0 in
+      let own = slot_numbered (number_in_slot f.books x.id) n x.loans (well.is_out _ standing).0 in
       let some : 0 < times slot x.loans = subst (λ (s : ℕ). 0 < times s x.loans) (loan-slot own.0 own.1 own.2) own.1 in
-      omega (arith, some, once-times (numbers_of f.books x.id) slot x.loans (sound.well_formed.publishers x.id _ (publisher-stands f sound.parts i x here)).loans_once)
+      omega (arith, some, once-times (number_in_slot f.books x.id) slot x.loans (sound.well_formed.publishers x.id _ (publisher-stands f sound.parts i x here)).loans_once)
 
   -- it is a loan
   is-out : (b : Book) → get f.books x.book ≡ Some b → is_loan_in b slot ≡ true

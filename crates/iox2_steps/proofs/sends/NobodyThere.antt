@@ -20,7 +20,7 @@ use Rattle.iox2_connections.specs.LookUp.{look_up}
 use Rattle.iox2_connections.specs.Mailboxes.{sender_ends, subscriber_of_key}
 use Rattle.iox2_connections.proofs.MailboxChanges.{put_at-own}
 use Rattle.iox2_laws.proofs.Cases.{match_some}
-use Rattle.iox2_domain.specs.ConnectionSends.{SendsLoanTo}
+use Rattle.iox2_domain.specs.ConnectionSends.{SendsKeptLoanTo}
 use Rattle.iox2_domain.specs.Discards.{DiscardsLoan}
 use Rattle.iox2_domain.specs.Fields.{Fields, kept_of, publisher_of}
 use Rattle.iox2_domain.specs.Invariant.{IsDomain, is_publisher}
@@ -86,7 +86,7 @@ lost-there {T} {U} environment s n l channel place gone =
     same = λ t. record s { publishers = (ap (put_at s.publishers l.publisher) nobody ∙ sym (put_at-own s.publishers l.publisher)) t; loans = put_at s.loans n None }
 
 module _ {T U : Type 0} (environment : Environment) (f g : Fields T U) (sound : IsDomain f) (p n channel connection : ℕ) (holds : HoldsWritten (state_of (kept_of f)) p n) (d : DiscardsLoan f g n) where
-  sends-discarded : (result : SendResult) → SendToConnection environment (state_of (kept_of f)) n d.0 channel connection (loan_discarded (state_of (kept_of f)) n d.0) result → SendsLoanTo environment f g n channel connection result
+  sends-discarded : (result : SendResult) → SendToConnection environment (state_of (kept_of f)) n d.0 channel connection (loan_discarded (state_of (kept_of f)) n d.0) result → SendsKeptLoanTo environment f g n channel connection result
   sends-discarded result sends = record {
     loan = d.0;
     out = d.1;
@@ -101,7 +101,7 @@ module _ {T U : Type 0} (environment : Environment) (f g : Fields T U) (sound : 
   its = ap (λ (l : Loan T U). l.publisher) (same_Some d.0 holds.0 (sym d.1 ∙ holds.1)) ∙ holds.2
 
   -- a loan that is given back was sent to nobody, where its publisher has no such connection
-  pub discard-sends-none : (i : ℕ) (x : PublisherFields) → get_or f.publishers i None ≡ Some x → x.id ≡ p → x.blocked ≡ None → get_or x.keys connection None ≡ None → SendsLoanTo environment f g n channel connection (Delivered_to 0)
+  pub discard-sends-none : (i : ℕ) (x : PublisherFields) → get_or f.publishers i None ≡ Some x → x.id ≡ p → x.blocked ≡ None → get_or x.keys connection None ≡ None → SendsKeptLoanTo environment f g n channel connection (Delivered_to 0)
   discard-sends-none i x here mine free none =
       sends-discarded (Delivered_to 0)
       (nobody-there environment (state_of (kept_of f)) n d.0 channel connection (publisher_of f.books f.connections x).port
@@ -114,7 +114,7 @@ module _ {T U : Type 0} (environment : Environment) (f g : Fields T U) (sound : 
       no-end (k ∷ rest) (suc place) e = no-end rest place e
 
   -- it was lost, where its publisher is gone
-  pub discard-sends-lost : look_up (is_publisher p) f.publishers ≡ None → SendsLoanTo environment f g n channel connection (Send_error ConnectionBrokenSinceSenderNoLongerExists)
+  pub discard-sends-lost : look_up (is_publisher p) f.publishers ≡ None → SendsKeptLoanTo environment f g n channel connection (Send_error ConnectionBrokenSinceSenderNoLongerExists)
   discard-sends-lost none =
       sends-discarded (Send_error ConnectionBrokenSinceSenderNoLongerExists)
       (lost-there environment (state_of (kept_of f)) n d.0 channel connection (ap (state_of (kept_of f)).publishers its ∙ unknown f p (stands-nowhere f.publishers p none)))

@@ -33,9 +33,9 @@ use Rattle.iox2_laws.proofs.Puts.{put_at-same, put_at-other, at_each, found_put,
 use Rattle.iox2_laws.proofs.SendLaws.{publish_keeps}
 use Rattle.iox2_domain.specs.Ports.{PublisherFields, SubscriberFields}
 use Rattle.iox2_domain.specs.Kept.{Named, Lent_message, Sent_message, state_of, entries_of, is_named, entry_in, KeptMessage}
-use Rattle.iox2_domain.specs.Fields.{Fields, kept_of, publisher_of, subscriber_of, numbers_of, blocked_send, contents_at}
+use Rattle.iox2_domain.specs.Fields.{Fields, kept_of, publisher_of, subscriber_of, number_in_slot, blocked_send, contents_at}
 use Rattle.iox2_domain.specs.Invariant.{IsDomain, IsOwned, KeepsBooks, HasNumber, details_of, is_publisher, is_subscriber, HasLoneLoans, HasParts, is_lent}
-use Rattle.iox2_domain.specs.Deliveries.{SendsSlot, with_loan_out, pushed, leaving, with_sent, with_left, DeliversFrom, result_of_send}
+use Rattle.iox2_domain.specs.Deliveries.{SendsSlot, with_loan_out, pushed, leaving, with_sent, with_left, DeliversFrom, result_of_delivery}
 use Rattle.iox2_domain.proofs.lemmas.containers.LookUps.{look_up-map}
 use Rattle.iox2_domain.proofs.lemmas.fields.Views.{mailboxes-are, unblocked}
 use Rattle.iox2_domain.proofs.lemmas.fields.ConnectionEnds.{publisher-stands}
@@ -205,7 +205,7 @@ module _ {T U : Type 0} (environment : Environment) (f : Fields T U) (sound : Is
   port = (publisher_of f.books f.connections x).port
 
   abbrev boxes : ℕ → ℕ → Mailbox
-  boxes = mailboxes_of (numbers_of f.books) d.connections
+  boxes = mailboxes_of (number_in_slot f.books) d.connections
 
   stands : s.publishers x.id ≡ Some port
   stands = publisher-stands f sound.parts i x here
@@ -213,7 +213,7 @@ module _ {T U : Type 0} (environment : Environment) (f : Fields T U) (sound : Is
   mid-is : state_of (kept_of mid) ≡ record s { mailboxes = boxes }
   mid-is = recounted-is f sound x.id x.book d.book d.stands own d.holders d.connections d.recounts
 
-  numbers-are : numbers_of mid.books ≡ numbers_of f.books
+  numbers-are : number_in_slot mid.books ≡ number_in_slot f.books
   numbers-are = same-numbers f sound.parts x.id x.book d.book d.stands own d.holders d.connections d.recounts
 
   port-is : (publisher_of mid.books mid.connections x).port ≡ port
@@ -262,7 +262,7 @@ module _ {T U : Type 0} (environment : Environment) (f : Fields T U) (sound : Is
           let lay : lies_at f x.book oldest ≡ Some (Lent_message m k) = back f sound.parts x.id x.book d.book d.stands own d.holders d.connections d.recounts x.book oldest (Lent_message m k) in_mid in
           let out = (sound.well_formed.loans m k (loan-is f sound i x here oldest m k lay)).is_out port (ap s.publishers (loan-of f sound i x here oldest m k lay) ∙ stands) in
           let there : contains port.history m ≡ true =
-          ap (contains port.history) (sym (loan-number f sound i x here oldest m k lay)) ∙ contains-map (numbers_of f.books x.id) (x.history).items oldest is in
+          ap (contains port.history) (sym (loan-number f sound i x here oldest m k lay)) ∙ contains-map (number_in_slot f.books x.id) (x.history).items oldest is in
           absurd (let no : true ≡ false = sym there ∙ out.1 in cc)
 
       by : (items : List ℕ) → (x.history).items ≡ items → oldest ≢ slot → ⊥
@@ -278,7 +278,7 @@ module _ {T U : Type 0} (environment : Environment) (f : Fields T U) (sound : Is
   fits-history : length (x.history).items ≤ (x.history).capacity
   fits-history =
       let bound : length port.history ≤ (f.config).history_size = (sound.well_formed.publishers x.id port stands).history_bound in
-      let size : length port.history ≡ length (x.history).items = length-map (x.history).items (numbers_of f.books x.id) in
+      let size : length port.history ≡ length (x.history).items = length-map (x.history).items (number_in_slot f.books x.id) in
       omega (arith, bound, size, room)
 
   rememberer-is : (publisher_of remembered.books remembered.connections remembering).port ≡ rememberer
@@ -350,7 +350,7 @@ module _ {T U : Type 0} (environment : Environment) (f : Fields T U) (sound : Is
 
   other-boxes : (q r : ℕ) → q ≢ x.id → boxes q r ≡ s.mailboxes q r
   other-boxes q r away =
-      others-stay (numbers_of f.books) f.connections d.connections x.id q r sound.parts.apart d.recounts.homes d.recounts.others away ∙ sym (mailboxes-are f q r)
+      others-stay (number_in_slot f.books) f.connections d.connections x.id q r sound.parts.apart d.recounts.homes d.recounts.others away ∙ sym (mailboxes-are f q r)
 
   boxes-are : boxes ≡ put_at s.mailboxes x.id (boxes x.id)
   boxes-are = one-put s.mailboxes boxes x.id (λ q away. fun_ext (λ r. other-boxes q r away))
@@ -372,9 +372,9 @@ module _ {T U : Type 0} (environment : Environment) (f : Fields T U) (sound : Is
       subst (λ (row : ℕ → Mailbox). Deliver environment f.config x.id x.strategy x.backpressure_handler (channel_buffer s x.id 0) n 0 0 no_time 0 port.ends 0 false row how (boxes x.id))
       (fun_ext (λ r. sym (mailboxes-are f x.id r)))
       (subst (λ (m : ℕ). Deliver environment f.config x.id x.strategy x.backpressure_handler (channel_buffer s x.id 0) m 0 0 no_time 0 port.ends 0 false
-      (mailboxes_of (numbers_of f.books) f.connections x.id) (end_of m 0 port.ends outcome) (boxes x.id)) (loan-number f sound i x here slot n l lies)
-      (subst (λ (buffers : ℕ → Option ℕ). Deliver environment f.config x.id x.strategy x.backpressure_handler buffers (numbers_of f.books x.id slot) 0 0 no_time 0 port.ends 0 false
-      (mailboxes_of (numbers_of f.books) f.connections x.id) (end_of (numbers_of f.books x.id slot) 0 port.ends outcome) (boxes x.id)) (taking-are f x.id 0) (d.delivers (numbers_of f.books))))
+      (mailboxes_of (number_in_slot f.books) f.connections x.id) (end_of m 0 port.ends outcome) (boxes x.id)) (loan-number f sound i x here slot n l lies)
+      (subst (λ (buffers : ℕ → Option ℕ). Deliver environment f.config x.id x.strategy x.backpressure_handler buffers (number_in_slot f.books x.id slot) 0 0 no_time 0 port.ends 0 false
+      (mailboxes_of (number_in_slot f.books) f.connections x.id) (end_of (number_in_slot f.books x.id slot) 0 port.ends outcome) (boxes x.id)) (taking-are f x.id 0) (d.delivers (number_in_slot f.books))))
 
   -- what the send concludes is published
   publishes-so : (h : State T U) (result : SendResult) → ConcludeSend (with_mailboxes (published s x.id n) x.id (boxes x.id)) x.id n how h result → Publish environment s x.id n h result
@@ -487,13 +487,13 @@ module _ {T U : Type 0} (environment : Environment) (f : Fields T U) (sound : Is
   -- ---- the send has ended
 
   module _ (count : ℕ) (has_failed : Bool) (is_complete : outcome ≡ DeliveryOutcome.Complete count has_failed) where
-    publishes : Publish environment s x.id n (state_of (kept_of after)) (result_of_send (DeliveryOutcome.Complete count has_failed))
-    publishes = publishes-so (state_of (kept_of after)) (result_of_send (DeliveryOutcome.Complete count has_failed))
-        (subst (λ (o : DeliveryOutcome). ConcludeSend (with_mailboxes (published s x.id n) x.id (boxes x.id)) x.id n (end_of n 0 port.ends o) (state_of (kept_of after)) (result_of_send (DeliveryOutcome.Complete count has_failed)))
+    publishes : Publish environment s x.id n (state_of (kept_of after)) (result_of_delivery (DeliveryOutcome.Complete count has_failed))
+    publishes = publishes-so (state_of (kept_of after)) (result_of_delivery (DeliveryOutcome.Complete count has_failed))
+        (subst (λ (o : DeliveryOutcome). ConcludeSend (with_mailboxes (published s x.id n) x.id (boxes x.id)) x.id n (end_of n 0 port.ends o) (state_of (kept_of after)) (result_of_delivery (DeliveryOutcome.Complete count has_failed)))
         (sym is_complete) (ended-state, refl))
 
     -- the loan is published
-    sent-publishes : Publishes environment f after x.id n l (result_of_send (DeliveryOutcome.Complete count has_failed))
+    sent-publishes : Publishes environment f after x.id n l (result_of_delivery (DeliveryOutcome.Complete count has_failed))
     sent-publishes = record {
       agrees = whole_of after parts-after lone-after kept-after (well-so (state_of (kept_of after)) _ publishes)
           (entries-so after parts-after sender refl (λ c e. absurd (let no : None ≡ Some c = sym (unblocked f.books f.connections x free) ∙ e in cc)) after-is trim.numbers trim.keeps);
@@ -504,8 +504,8 @@ module _ {T U : Type 0} (environment : Environment) (f : Fields T U) (sound : Is
     }
 
     -- with the fields that the code makes of those after the delivery
-    pub ended-publishes : (h : Fields T U) (b : Book) → get g.books x.book ≡ Some b → h ≡ with_send_ended g i x slot b → Publishes environment f h x.id n l (result_of_send (DeliveryOutcome.Complete count has_failed))
-    ended-publishes h b there is = subst (λ (k : Fields T U). Publishes environment f k x.id n l (result_of_send (DeliveryOutcome.Complete count has_failed)))
+    pub ended-publishes : (h : Fields T U) (b : Book) → get g.books x.book ≡ Some b → h ≡ with_send_ended g i x slot b → Publishes environment f h x.id n l (result_of_delivery (DeliveryOutcome.Complete count has_failed))
+    ended-publishes h b there is = subst (λ (k : Fields T U). Publishes environment f k x.id n l (result_of_delivery (DeliveryOutcome.Complete count has_failed)))
         (sym (is ∙ ap (with_send_ended g i x slot) (delivered-book b there) ∙ ap (λ (k : Fields T U). with_send_ended k i x slot book) d.delivered)) sent-publishes
 
   -- ---- the send is blocked
@@ -567,7 +567,7 @@ module _ {T U : Type 0} (environment : Environment) (f : Fields T U) (sound : Is
     book-relent : get relent.books x.book ≡ Some relent_book
     book-relent = book-here remembered x.book (with_sent slot book) relent_book book-remembered (record { publisher = refl; node = refl; numbers = refl; slots = length-set book.holders slot _ })
 
-    numbers-remembered : numbers_of remembered.books ≡ numbers_of f.books
+    numbers-remembered : number_in_slot remembered.books ≡ number_in_slot f.books
     numbers-remembered = numbers-same mid x.book book (with_sent slot book) book-stands (record { publisher = refl; node = refl; numbers = refl; slots = refl }) parts.books.one_each ∙ numbers-are
 
     -- what waits, to the machine
@@ -686,7 +686,7 @@ module _ {T U : Type 0} (environment : Environment) (f : Fields T U) (sound : Is
 -- a slot that is sent publishes its loan
 pub send-publishes : {T U : Type 0} (environment : Environment) (f : Fields T U) (sound : IsDomain f) (i : ℕ) (x : PublisherFields) (here : get_or f.publishers i None ≡ Some x)
     (slot n : ℕ) (l : Loan T U) (lies : lies_at f x.book slot ≡ Some (Lent_message n l)) (is_written : l.is_written ≡ true) (free : x.blocked ≡ None) (outcome : DeliveryOutcome) (h : Fields T U)
-    → SendsSlot environment f i x slot outcome h → Publishes environment f h x.id n l (result_of_send outcome)
+    → SendsSlot environment f i x slot outcome h → Publishes environment f h x.id n l (result_of_delivery outcome)
 send-publishes environment f sound i x here slot n l lies is_written free (DeliveryOutcome.Complete count has_failed) h sent =
     ended-publishes environment f sound i x here slot n l lies is_written free (DeliveryOutcome.Complete count has_failed) sent.delivered sent.delivers count has_failed refl h sent.book sent.stands sent.ended
 send-publishes environment f sound i x here slot n l lies is_written free (DeliveryOutcome.Suspended progress) h sent =

@@ -17,7 +17,7 @@ use Rattle.iox2_connections.specs.Counters.{times}
 use Rattle.iox2_connections.proofs.Counts.{times_push, one_if_other}
 use Rattle.iox2_domain.specs.Ports.{PublisherFields}
 use Rattle.iox2_domain.specs.Kept.{KeptMessage, Lent_message, Sent_message, state_of, entries_of, is_numbered, message_numbered, loan_in, entry_in}
-use Rattle.iox2_domain.specs.Fields.{Fields, kept_of, publisher_of, numbers_of, message_in, contents_at}
+use Rattle.iox2_domain.specs.Fields.{Fields, kept_of, publisher_of, number_in_slot, message_in, contents_at}
 use Rattle.iox2_domain.specs.Invariant.{IsNumbered, HasNumber, HasShape, HasShapes, HasParts, cell_count}
 use Rattle.iox2_domain.specs.Deliveries.{with_sent, with_loan_out}
 use Rattle.iox2_domain.proofs.lemmas.slots.Messages.{lies_at, message_in-parts, message_at-book, message_at-slot, has_number, loan-there, entry-there, ChangesSlot, message_numbered-others}
@@ -166,22 +166,22 @@ module _ {T U : Type 0} (f : Fields T U) (parts : HasParts f) (i : ℕ) (x : Pub
     by m false e = ap found_loan (others-same m (λ same. let yes : eqb m n ≡ true = eq-eqb m n same in let no : true ≡ false = sym yes ∙ e in absurd cc))
 
   -- the numbers of its publisher's loans are without its own, which is the last of the history
-  pub ended-is : ((s : ℕ) → 0 < times s x.loans → numbers_of f.books x.id s ≡ n → s ≡ slot) → numbers_of f.books x.id slot ≡ n
+  pub ended-is : ((s : ℕ) → 0 < times s x.loans → number_in_slot f.books x.id s ≡ n → s ≡ slot) → number_in_slot f.books x.id slot ≡ n
       → state_of (kept_of ended) ≡ record (state_of (kept_of f)) {
         publishers = put_at (state_of (kept_of f)).publishers x.id
-            (Some (record (publisher_of f.books f.connections x).port { loans = without n (map (numbers_of f.books x.id) x.loans); history = map (numbers_of f.books x.id) (x.history).items ++ n ∷ [] }));
+            (Some (record (publisher_of f.books f.connections x).port { loans = without n (map (number_in_slot f.books x.id) x.loans); history = map (number_in_slot f.books x.id) (x.history).items ++ n ∷ [] }));
         loans = put_at (state_of (kept_of f)).loans n None;
       }
   ended-is only is =
       own-is f parts i x here b at mine (with_remembered slot x) keeps (with_sent slot b) (sent-keeps b slot) (put_at (state_of (kept_of f)).loans n None) ended-loans
       ∙ (λ t. record (state_of (kept_of f)) {
         publishers = put_at (state_of (kept_of f)).publishers x.id
-            (Some (record (publisher_of f.books f.connections x).port { loans = map-without (numbers_of f.books x.id) slot n is x.loans only t; history = remembered t }));
+            (Some (record (publisher_of f.books f.connections x).port { loans = map-without (number_in_slot f.books x.id) slot n is x.loans only t; history = remembered t }));
         loans = put_at (state_of (kept_of f)).loans n None;
       })
     where
-      remembered : map (numbers_of f.books x.id) ((x.history).items ++ slot ∷ []) ≡ map (numbers_of f.books x.id) (x.history).items ++ n ∷ []
-      remembered = map-append (numbers_of f.books x.id) (x.history).items (slot ∷ []) ∙ ap (λ (m : ℕ). map (numbers_of f.books x.id) (x.history).items ++ m ∷ []) is
+      remembered : map (number_in_slot f.books x.id) ((x.history).items ++ slot ∷ []) ≡ map (number_in_slot f.books x.id) (x.history).items ++ n ∷ []
+      remembered = map-append (number_in_slot f.books x.id) (x.history).items (slot ∷ []) ∙ ap (λ (m : ℕ). map (number_in_slot f.books x.id) (x.history).items ++ m ∷ []) is
 
   -- ---- the parts
 

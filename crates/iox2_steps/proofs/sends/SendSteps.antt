@@ -19,8 +19,8 @@ use Rattle.iox2_connections.specs.Deliveries.{begun}
 use Rattle.iox2_connections.specs.declared.sender.DeliveryOutcome.{DeliveryOutcome}
 use Rattle.iox2_connections.proofs.MailboxChanges.{within_if_some}
 use Rattle.iox2_laws.proofs.PublisherUpdates.{update_publisher_leaves}
-use Rattle.iox2_domain.specs.Connects.{UpdatesPublisher}
-use Rattle.iox2_domain.specs.Deliveries.{CanSend, SendsSlot, result_of_send}
+use Rattle.iox2_domain.specs.Connects.{UpdatesKeptPublisher}
+use Rattle.iox2_domain.specs.Deliveries.{CanSend, SendsSlot, result_of_delivery}
 use Rattle.iox2_domain.specs.Fields.{Fields, kept_of, publisher_of}
 use Rattle.iox2_domain.specs.Handlers.{may_fail}
 use Rattle.iox2_domain.specs.Invariant.{IsDomain}
@@ -28,7 +28,7 @@ use Rattle.iox2_domain.specs.Kept.{Lent_message, state_of}
 use Rattle.iox2_domain.specs.LoanCalls.{HoldsWritten}
 use Rattle.iox2_domain.specs.LoanSlots.{LiesInSlot}
 use Rattle.iox2_domain.specs.Ports.{PublisherFields}
-use Rattle.iox2_domain.specs.SentLoans.{SendsLoan, IsReadyToSend}
+use Rattle.iox2_domain.specs.SentLoans.{SendsKeptLoan, IsReadyToSend}
 use Rattle.iox2_domain.proofs.lemmas.fields.ConnectionEnds.{publisher-stands}
 use Rattle.iox2_steps.proofs.sends.LoanAlone.{loan-once, loan-alone, loan-own}
 use Rattle.iox2_domain.proofs.lemmas.slots.Messages.{lies_at, message_at-slot}
@@ -55,7 +55,7 @@ ready-in-book {T} {U} environment f sound p n place key slot x stands idle same 
 
 module _ {T U : Type 0} (environment : Environment) (f0 : Fields T U) (sound : IsDomain f0) (p n place : ℕ) (holds : HoldsWritten (state_of (kept_of f0)) p n)
     (found : (x : PublisherFields) × (get_or f0.publishers place None ≡ Some x) × (x.id ≡ p)) (free : (found.0).blocked ≡ None)
-    (f1 : Fields T U) (u : UpdatesPublisher environment f0 place found.0 f1 None) where
+    (f1 : Fields T U) (u : UpdatesKeptPublisher environment f0 place found.0 f1 None) where
   -- the publisher after its update
   abbrev sender : PublisherFields
   sender = record found.0 { keys = u.keys; key_room = u.key_room; is_due = false }
@@ -106,7 +106,7 @@ module _ {T U : Type 0} (environment : Environment) (f0 : Fields T U) (sound : I
         }
 
     -- the whole send
-    pub sends-loan : (outcome : DeliveryOutcome) (f2 : Fields T U) → ((x : PublisherFields) → get_or f1.publishers place None ≡ Some x → SendsSlot environment f1 place x slot outcome f2) → SendsLoan environment f0 f2 n (result_of_send outcome)
+    pub sends-loan : (outcome : DeliveryOutcome) (f2 : Fields T U) → ((x : PublisherFields) → get_or f1.publishers place None ≡ Some x → SendsSlot environment f1 place x slot outcome f2) → SendsKeptLoan environment f0 f2 n (result_of_delivery outcome)
     sends-loan outcome f2 sends = record {
       loan = holds.0;
       out = holds.1;
@@ -115,8 +115,8 @@ module _ {T U : Type 0} (environment : Environment) (f0 : Fields T U) (sound : I
         u.after,
         None,
         subst (λ (q : ℕ). UpdatePublisher environment (state_of (kept_of f0)) q u.after None) (found.2 ∙ sym holds.2) u.updates,
-        subst (λ (q : ℕ). Publish environment u.after q n (state_of (kept_of f2)) (result_of_send outcome)) (found.2 ∙ sym holds.2)
-            (subst (λ (s : State T U). Publish environment s sender.id n (state_of (kept_of f2)) (result_of_send outcome)) u.reaches.state published.publishes),
+        subst (λ (q : ℕ). Publish environment u.after q n (state_of (kept_of f2)) (result_of_delivery outcome)) (found.2 ∙ sym holds.2)
+            (subst (λ (s : State T U). Publish environment s sender.id n (state_of (kept_of f2)) (result_of_delivery outcome)) u.reaches.state published.publishes),
       );
       loans = published.loans ∙ ap (λ (loans : ℕ → Option (Loan T U)). put_at loans n None) loans-are;
       entries = λ m entry e. elim (published.entries m entry e) [
@@ -132,17 +132,17 @@ module _ {T U : Type 0} (environment : Environment) (f0 : Fields T U) (sound : I
         d = sends sender sender-stands
 
         -- nothing but a handler fails a send that was begun
-        goes : (o : DeliveryOutcome) (error : SendError) → error ≢ UnableToDeliver → result_of_send o ≡ Send_error error → ⊥
+        goes : (o : DeliveryOutcome) (error : SendError) → error ≢ UnableToDeliver → result_of_delivery o ≡ Send_error error → ⊥
         goes (DeliveryOutcome.Suspended progress) error other failed = absurd (let no : Blocked_send ≡ Send_error error = failed in cc)
         goes (DeliveryOutcome.Complete count true) error other failed = other (let same : Send_error UnableToDeliver ≡ Send_error error = failed in cc)
         goes (DeliveryOutcome.Complete count false) error other failed = absurd (let no : Delivered_to count ≡ Send_error error = failed in cc)
 
         -- and the publisher's own doesn't, where it fails none
-        fails : (o : DeliveryOutcome) → outcome ≡ o → may_fail sender.backpressure_handler ≡ false → result_of_send o ≡ Send_error UnableToDeliver → ⊥
+        fails : (o : DeliveryOutcome) → outcome ≡ o → may_fail sender.backpressure_handler ≡ false → result_of_delivery o ≡ Send_error UnableToDeliver → ⊥
         fails (DeliveryOutcome.Suspended progress) is quiet failed = absurd (let no : Blocked_send ≡ Send_error UnableToDeliver = failed in cc)
         fails (DeliveryOutcome.Complete count has_failed) is quiet failed =
             let none : has_failed ≡ false = never-fails environment f1 sender 0 sender.keys slot begun no_time outcome d.delivered d.delivers quiet refl count has_failed is in
             absurd (let no : Delivered_to count ≡ Send_error UnableToDeliver = sym (ap (λ (t : Bool). cond t (Send_error UnableToDeliver) (Delivered_to count)) none) ∙ failed in cc)
 
-        published : Publishes environment f1 f2 sender.id n holds.0 (result_of_send outcome)
+        published : Publishes environment f1 f2 sender.id n holds.0 (result_of_delivery outcome)
         published = send-publishes environment f1 updated-agrees place sender sender-stands slot n holds.0 lies holds.3 free outcome f2 d

@@ -16,7 +16,7 @@ use Rattle.iox2_connections.proofs.Counts.{one_if, one_if_same, one_if_other, ti
 use Rattle.iox2_connections.proofs.MailboxChanges.{put_at-own}
 use Rattle.iox2_domain.specs.Ports.{PublisherFields}
 use Rattle.iox2_domain.specs.Kept.{Lent_message, state_of, entries_of}
-use Rattle.iox2_domain.specs.Fields.{Fields, kept_of, publisher_of, numbers_of, contents_at}
+use Rattle.iox2_domain.specs.Fields.{Fields, kept_of, publisher_of, number_in_slot, contents_at}
 use Rattle.iox2_domain.specs.Invariant.{HasNumber, HasLoneLoans, HasParts}
 use Rattle.iox2_domain.specs.Deliveries.{with_left}
 use Rattle.iox2_domain.proofs.lemmas.slots.Messages.{lies_at, message_in-parts, message_at-slot}
@@ -98,7 +98,7 @@ module _ {T U : Type 0} (e : Fields T U) (parts : HasParts e) (i : ℕ) (z : Pub
     numbers = λ k s m has. (has, refl);
   } where
     same : last_n capacity port.history ≡ port.history
-    same = last-short capacity port.history (let size : length port.history ≡ length z.history.items = length-map z.history.items (numbers_of e.books z.id) in omega (arith, size, ap (length {A = ℕ}) all, one-more))
+    same = last-short capacity port.history (let size : length port.history ≡ length z.history.items = length-map z.history.items (number_in_slot e.books z.id) in omega (arith, size, ap (length {A = ℕ}) all, one-more))
 
     publishers : (state_of (kept_of e)).publishers ≡ put_at (state_of (kept_of e)).publishers z.id (Some (record port { history = last_n capacity port.history }))
     publishers =
@@ -163,10 +163,10 @@ module _ {T U : Type 0} (e : Fields T U) (parts : HasParts e) (i : ℕ) (z : Pub
       keeps = rebooked-keeps e parts i z shorter here b at mine holders can-lose;
       numbers = rebooked-number e parts i z shorter here b at mine holders can-lose;
     } where
-      numbers-left : last_n capacity port.history ≡ map (numbers_of e.books z.id) rest
+      numbers-left : last_n capacity port.history ≡ map (number_in_slot e.books z.id) rest
       numbers-left =
-          ap (λ (xs : List ℕ). last_n capacity (map (numbers_of e.books z.id) xs)) (all ∙ split)
-          ∙ last-long capacity (numbers_of e.books z.id oldest) (map (numbers_of e.books z.id) rest) (length-map rest (numbers_of e.books z.id) ∙ size ∙ full)
+          ap (λ (xs : List ℕ). last_n capacity (map (number_in_slot e.books z.id) xs)) (all ∙ split)
+          ∙ last-long capacity (number_in_slot e.books z.id oldest) (map (number_in_slot e.books z.id) rest) (length-map rest (number_in_slot e.books z.id) ∙ size ∙ full)
 
   -- the history is at most as long as it may be
   pub trims : (h : Fields T U) → h ≡ trimmed (cond (nat_lt (length items) capacity) None (slice_get (items ++ slot ∷ []) 0)) → Trims e h z.id capacity port

@@ -29,7 +29,7 @@ use Rattle.iox2_connections.proofs.LookUps.{look_up-there}
 use Rattle.iox2_connections.proofs.MailboxChanges.{both-true}
 use Rattle.iox2_domain.specs.Ports.{PublisherFields, SubscriberFields}
 use Rattle.iox2_domain.specs.Kept.{state_of}
-use Rattle.iox2_domain.specs.Fields.{Fields, kept_of, subscriber_of, numbers_of}
+use Rattle.iox2_domain.specs.Fields.{Fields, kept_of, subscriber_of, number_in_slot}
 use Rattle.iox2_domain.specs.Invariant.{IsDomain, HasParts, KeepsBooks}
 use Rattle.iox2_domain.proofs.lemmas.containers.LookUps.{map-at}
 use Rattle.iox2_steps.proofs.creations.PublishersDue.{with_publishers_due, publishers_due-are, due}
@@ -105,7 +105,7 @@ module _ {T U : Type 0} (f : Fields T U) (sound : IsDomain f) (place : ℕ) (y :
   -- nothing waits from one that is gone
   dropped : (p : ℕ) → s.publishers p ≡ None → HasLost (t.mailboxes p y.id)
   dropped p gone = subst HasLost (sym (mailboxes-are f' p y.id)) (by (look_up (is_between p y.id) f'.connections.slots) refl) where
-    by : (o : Option Link) → look_up (is_between p y.id) f'.connections.slots ≡ o → HasLost (mailbox_if_any (numbers_of f'.books p) o)
+    by : (o : Option Link) → look_up (is_between p y.id) f'.connections.slots ≡ o → HasLost (mailbox_if_any (number_in_slot f'.books p) o)
     by None e = (refl, refl)
     by (Some c) e =
         let at = look_up-there (is_between p y.id) f'.connections.slots c e in
@@ -114,7 +114,7 @@ module _ {T U : Type 0} (f : Fields T U) (sound : IsDomain f) (place : ℕ) (y :
           | inl none ↦ none
           | inr left ↦ absurd (done at.0 left)
         ] in
-        (ap (λ (ws : List ℕ). not (is_nil (map (numbers_of f'.books p) ws))) none.0, ap (numbered (numbers_of f'.books p)) none.1)
+        (ap (λ (ws : List ℕ). not (is_nil (map (number_in_slot f'.books p) ws))) none.0, ap (numbered (number_in_slot f'.books p)) none.1)
 
   -- something is borrowed in a connection with a publisher that is gone
   busy-numbers : (k : ℕ) (c : Link) → get f'.connections k ≡ Some c → HasNoPublisher f.publishers c → is_empty_link c ≡ false

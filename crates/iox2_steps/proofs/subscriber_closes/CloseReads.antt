@@ -25,7 +25,7 @@ use Rattle.iox2_domain.proofs.lemmas.containers.ChangedRecords.{changed-here}
 use Rattle.iox2_steps.proofs.creations.PublishersDue.{with_publishers_due, due}
 use Rattle.iox2_domain.proofs.lemmas.fields.Standing.{some_is}
 use Rattle.iox2_steps.specs.Agreement.{IsOrphan, HasOwnedParts}
-use Rattle.iox2_steps.specs.Closes.{HasNoPublisher, IsBusy, IsLeftAt, IsStanding, ForgetsIfEmpty, LosesLeft, LosesWaiting, shut_subscriber}
+use Rattle.iox2_steps.specs.Closes.{HasNoPublisher, IsBusy, IsLeftAt, IsStanding, ForgetsIfEmpty, LosesLeft, ConnectionLosesWaiting, shut_subscriber}
 use Rattle.iox2_steps.proofs.subscriber_closes.CloseSteps.{book, link-busy, link-empty, stays-busy, forgot-parts, book-left, others-busy, forgets-empty, is_empty_link}
 use Rattle.iox2_steps.proofs.subscriber_closes.FreedBooks.{can-go, frees, FreesBook}
 use Rattle.iox2_steps.proofs.subscriber_closes.CloseWalk.{IsClosing, closing-begins, closing-passes}
@@ -76,7 +76,7 @@ module _ {T U : Type 0} (f : Fields T U) (place key : ℕ) (left : IsLeftAt f pl
       let is : c ≡ left.link = cc in
       ap (λ (d : Link). d.home) is
 
-  module _ (between : Fields T U) (loses : LosesWaiting f key left.link between) where
+  module _ (between : Fields T U) (loses : ConnectionLosesWaiting f key left.link between) where
     -- it may be forgotten then
     abbrev pub left-after : IsLeftAt between place key
     left-after = record {

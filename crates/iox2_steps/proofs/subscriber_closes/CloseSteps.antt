@@ -24,7 +24,7 @@ use Rattle.iox2_connections.proofs.MailboxChanges.{mailbox-there, Updates-with_v
 use Rattle.iox2_domain.specs.Departures.{key_forgotten}
 use Rattle.iox2_domain.specs.Ports.{PublisherFields, SubscriberFields}
 use Rattle.iox2_domain.specs.Kept.{state_of}
-use Rattle.iox2_domain.specs.Fields.{Fields, kept_of, numbers_of}
+use Rattle.iox2_domain.specs.Fields.{Fields, kept_of, number_in_slot}
 use Rattle.iox2_domain.specs.Invariant.{IsBookOf, SenderHas, is_publisher}
 use Rattle.iox2_domain.specs.Updates.{changed_at}
 use Rattle.iox2_domain.proofs.lemmas.containers.ChangedRecords.{changed-here}
@@ -41,7 +41,7 @@ use Rattle.iox2_steps.proofs.updates.FollowedChannels.{has-link, links-same}
 use Rattle.iox2_domain.proofs.lemmas.fields.KeptChannels.{but-channels}
 use Rattle.iox2_domain.specs.Midway.{with_channels_of}
 use Rattle.iox2_steps.specs.Agreement.{IsOrphan, HasOwnedParts}
-use Rattle.iox2_steps.specs.Closes.{HasNoPublisher, IsBusy, LosesWaiting, ForgetsIfEmpty, lost_from, forgotten_if_empty, without_publisher}
+use Rattle.iox2_steps.specs.Closes.{HasNoPublisher, IsBusy, ConnectionLosesWaiting, ForgetsIfEmpty, lost_from, forgotten_if_empty, without_publisher}
 use Rattle.iox2_steps.proofs.subscriber_closes.ClosedSubscribers.{forgetful-parts, forgetful-is}
 use Rattle.iox2_steps.proofs.subscriber_closes.KeptMessages.{keeps-same, keeps-trans}
 use Rattle.iox2_steps.proofs.subscriber_closes.LeftRecounts.{with_fewer, fewer-parts, fewer-is, fewer-keeps}
@@ -95,11 +95,11 @@ module _ {T U : Type 0} (f : Fields T U) (parts : HasOwnedParts f) where
     q = c.home.subscriber
 
     -- the connection's mailbox
-    pub box-is : (state_of (kept_of f)).mailboxes p q ≡ mailbox_of (numbers_of f.books p) c
-    box-is = mailboxes-are f p q ∙ mailbox-there (numbers_of f.books) f.connections key p q c parts.parts.apart at refl refl
+    pub box-is : (state_of (kept_of f)).mailboxes p q ≡ mailbox_of (number_in_slot f.books p) c
+    box-is = mailboxes-are f p q ∙ mailbox-there (number_in_slot f.books) f.connections key p q c parts.parts.apart at refl refl
 
     pub box-numbers : has_numbers ((state_of (kept_of f)).mailboxes p q) ≡ not (is_empty_link c)
-    box-numbers = ap has_numbers box-is ∙ numbers-held (numbers_of f.books p) c
+    box-numbers = ap has_numbers box-is ∙ numbers-held (number_in_slot f.books p) c
 
     -- its publisher's book
     pub book : IsBookOf f.books p c.home.book
@@ -129,18 +129,18 @@ module _ {T U : Type 0} (f : Fields T U) (parts : HasOwnedParts f) where
         abbrev lossy : Fields T U
         lossy = with_fewer f parts c.home.book book.book book.stands nowhere holders new recounts drops.drops.shrinks
 
-        boxes : mailboxes_of (numbers_of f.books) new ≡ (lost_from (state_of (kept_of f)) p q).mailboxes
+        boxes : mailboxes_of (number_in_slot f.books) new ≡ (lost_from (state_of (kept_of f)) p q).mailboxes
         boxes =
-            drops-boxes (book.book).holders holders f.connections new key drops parts.parts.apart (numbers_of f.books)
+            drops-boxes (book.book).holders holders f.connections new key drops parts.parts.apart (number_in_slot f.books)
             ∙ (λ i. lost (sym numbered i) (same i))
           where
-            numbered : (state_of (kept_of f)).mailboxes ≡ mailboxes_of (numbers_of f.books) f.connections
+            numbered : (state_of (kept_of f)).mailboxes ≡ mailboxes_of (number_in_slot f.books) f.connections
             numbered = fun_ext (λ r. fun_ext (λ s. mailboxes-are f r s))
 
             lost : (ℕ → ℕ → Mailbox) → Link → ℕ → ℕ → Mailbox
             lost all l = (lost_from (record (state_of (kept_of f)) { mailboxes = all }) l.home.publisher l.home.subscriber).mailboxes
 
-        pub loses-waiting : LosesWaiting f key c lossy
+        pub loses-waiting : ConnectionLosesWaiting f key c lossy
         loses-waiting = record {
           passes = record {
             parts = fewer-parts f parts c.home.book book.book book.stands nowhere holders new recounts drops.drops.shrinks;
@@ -160,7 +160,7 @@ module _ {T U : Type 0} (f : Fields T U) (parts : HasOwnedParts f) where
 
       -- the same, for the book that stands at its key
       loses-here : (i : ℕ) (b b' : Book) (new : Slab Link) → i ≡ c.home.book → get f.books i ≡ Some b → b' ≡ with_counters b b'.holders
-          → DropsWaiting key b.holders f.connections b'.holders new → LosesWaiting f key c (record f { connections = new; books = with_value f.books i b' })
+          → DropsWaiting key b.holders f.connections b'.holders new → ConnectionLosesWaiting f key c (record f { connections = new; books = with_value f.books i b' })
       loses-here i b b' new is_key at_b is_book drops =
           let one : Some book.book ≡ Some b = sym book.stands ∙ ap (get f.books) (sym is_key) ∙ at_b in
           let is : book.book ≡ b = cc in
@@ -168,7 +168,7 @@ module _ {T U : Type 0} (f : Fields T U) (parts : HasOwnedParts f) where
           let changed : with_counters book.book b'.holders ≡ b' = ap (λ (d : Book). with_counters d b'.holders) is ∙ sym is_book in
           let same : lossy b'.holders new its ≡ record f { connections = new; books = with_value f.books i b' } =
           λ k. record f { connections = new; books = with_value f.books (sym is_key k) (changed k) } in
-          subst (LosesWaiting f key c) same (loses-waiting b'.holders new its)
+          subst (ConnectionLosesWaiting f key c) same (loses-waiting b'.holders new its)
 
       -- ---- it is forgotten if no slot stands in it
 
@@ -295,13 +295,13 @@ module _ {T U : Type 0} (v f : Fields T U) (same : v ≡ f) (parts : HasOwnedPar
   -- what waits there is lost
   pub loses-in : (c : Link) → get v.connections key ≡ Some c → (i : ℕ) → i ≡ c.home.book → (b b' : Book) → get v.books i ≡ Some b → b' ≡ with_counters b b'.holders
       → (new : Slab Link) → DropsWaiting key b.holders v.connections b'.holders new
-      → (l : Link) → get f.connections key ≡ Some l → LosesWaiting f key l (record v { connections = new; books = with_value v.books i b' })
+      → (l : Link) → get f.connections key ≡ Some l → ConnectionLosesWaiting f key l (record v { connections = new; books = with_value v.books i b' })
   loses-in c at i is b b' at_b is_book new drops l at_l =
       let here = found c at in
       let one : Some l ≡ Some c = sym at_l ∙ here.0 in
       let is_c : l ≡ c = cc in
       let drops_f : DropsWaiting key b.holders f.connections b'.holders new = subst (λ (g : Fields T U). DropsWaiting key b.holders g.connections b'.holders new) same drops in
       let at_f : get f.books i ≡ Some b = ap (λ (g : Fields T U). get g.books i) (sym same) ∙ at_b in
-      subst (λ (m : Link). LosesWaiting f key m (record v { connections = new; books = with_value v.books i b' })) (sym is_c)
-      (subst (λ (g : Fields T U). LosesWaiting f key c (record g { connections = new; books = with_value g.books i b' })) (sym same)
+      subst (λ (m : Link). ConnectionLosesWaiting f key m (record v { connections = new; books = with_value v.books i b' })) (sym is_c)
+      (subst (λ (g : Fields T U). ConnectionLosesWaiting f key c (record g { connections = new; books = with_value g.books i b' })) (sym same)
       (loses-here f parts key c here.0 here.1 i b b' new is at_f is_book drops_f))

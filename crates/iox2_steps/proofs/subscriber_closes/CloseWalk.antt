@@ -28,7 +28,7 @@ use Rattle.iox2_domain.specs.KeptLinks.{HasLink}
 use Rattle.iox2_domain.specs.Midway.{with_channels_of}
 use Rattle.iox2_steps.proofs.updates.FollowedChannels.{has-link, link-through}
 use Rattle.iox2_steps.specs.Agreement.{IsOrphan, HasOwnedParts, KeepsMessages}
-use Rattle.iox2_steps.specs.Closes.{HasNoPublisher, IsBusy, LosesWaiting, ForgetsIfEmpty, LosesLeft, LosesIfLeft, lost_from, forgotten_if_empty, without_publisher}
+use Rattle.iox2_steps.specs.Closes.{HasNoPublisher, IsBusy, ConnectionLosesWaiting, ForgetsIfEmpty, LosesLeft, LosesIfLeft, lost_from, forgotten_if_empty, without_publisher}
 use Rattle.iox2_steps.proofs.subscriber_closes.OwnedParts.{owned_parts_of, left-held}
 use Rattle.iox2_steps.proofs.subscriber_closes.ClosedSubscribers.{shut, with_shut, shut-parts, shut-is}
 use Rattle.iox2_steps.proofs.subscriber_closes.KeptMessages.{keeps-trans}
@@ -168,7 +168,7 @@ module _ {T U : Type 0} (f : Fields T U) (sound : IsDomain f) (place : ℕ) (y :
       abbrev between : Fields T U
       between = loses_left.between
 
-      abbrev loses : LosesWaiting f' key c between
+      abbrev loses : ConnectionLosesWaiting f' key c between
       loses = loses_left.loses
 
       abbrev forgets : ForgetsIfEmpty between place key (loses_left.left).subscriber (without_waiting c) next

@@ -9,7 +9,7 @@ use Rattle.iox2_connections.specs.Counters.{with_counters}
 use Rattle.iox2_connections.specs.Mailboxes.{mailboxes_of}
 use Rattle.iox2_connections.specs.Recounts.{Recounts}
 use Rattle.iox2_domain.specs.Kept.{state_of}
-use Rattle.iox2_domain.specs.Fields.{Fields, kept_of, numbers_of}
+use Rattle.iox2_domain.specs.Fields.{Fields, kept_of, number_in_slot}
 use Rattle.iox2_domain.specs.Invariant.{HasParts, IsGone, IsOwned, is_publisher}
 use Rattle.iox2_domain.proofs.lemmas.fields.SameEnds.{with_connections}
 use Rattle.iox2_domain.proofs.lemmas.slots.BookChanges.{book-was}
@@ -52,7 +52,7 @@ module _ {T U : Type 0} (f : Fields T U) (parts : HasOwnedParts f) (key : ℕ) (
   }
 
   -- the machine sees the mailboxes alone
-  pub fewer-is : state_of (kept_of with_fewer) ≡ record (state_of (kept_of f)) { mailboxes = mailboxes_of (numbers_of f.books) new }
+  pub fewer-is : state_of (kept_of with_fewer) ≡ record (state_of (kept_of f)) { mailboxes = mailboxes_of (number_in_slot f.books) new }
   fewer-is = fields.recounted-is f whole b.publisher key b at refl holders new r own loans
 
   -- what somebody still holds stays where it lies

@@ -14,7 +14,7 @@ use Rattle.iox2_machine.specs.declared.degradation.DegradationAction.{Degradatio
 use Rattle.iox2_machine.specs.declared.degradation.DegradationCause.TheVariants.{FailedToEstablishConnection as NotEstablished}
 use Rattle.iox2_machine.specs.declared.degradation.DegradationInfo.{DegradationInfo}
 use Rattle.iox2_machine.specs.declared.errors.ConnectionFailure.{ConnectionFailure}
-use Rattle.iox2_domain.specs.Connects.{UpdatesPublisher}
+use Rattle.iox2_domain.specs.Connects.{UpdatesKeptPublisher}
 use Rattle.iox2_domain.specs.Fields.{Fields, kept_of}
 use Rattle.iox2_domain.specs.Kept.{state_of}
 use Rattle.iox2_domain.specs.Ports.{PublisherFields}
@@ -82,7 +82,7 @@ module _ (e e' : Environment) where
 
   -- and what it comes to for the fields is the same
   pub updates-alike : {T U : Type 0} (f : Fields T U) (i : ℕ) (x : PublisherFields) (new : Fields T U) (failure : Option ConnectionFailure)
-      → ((z : Publisher) → (state_of (kept_of f)).publishers x.id ≡ Some z → AllowsUpdates e e' x.id z.degradation_handler) → UpdatesPublisher e f i x new failure → UpdatesPublisher e' f i x new failure
+      → ((z : Publisher) → (state_of (kept_of f)).publishers x.id ≡ Some z → AllowsUpdates e e' x.id z.degradation_handler) → UpdatesKeptPublisher e f i x new failure → UpdatesKeptPublisher e' f i x new failure
   updates-alike f i x new failure allowed u = record {
     after = u.after;
     updates = update-alike (state_of (kept_of f)) x.id u.after failure allowed u.updates;

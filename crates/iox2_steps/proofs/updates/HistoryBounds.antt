@@ -18,7 +18,7 @@ use Rattle.iox2_connections.specs.Receivers.{HasReclaimed}
 use Rattle.iox2_connections.proofs.Empties.{sum-keys}
 use Rattle.iox2_connections.proofs.MailboxChanges.{mailbox-there, is_between-own}
 use Rattle.iox2_domain.specs.Ports.{PublisherFields}
-use Rattle.iox2_domain.specs.Fields.{Fields, numbers_of}
+use Rattle.iox2_domain.specs.Fields.{Fields, number_in_slot}
 use Rattle.iox2_domain.specs.Invariant.{IsDomain}
 use Rattle.iox2_domain.proofs.lemmas.fields.ConnectionEnds.{publisher-stands, occupant-sender_ends}
 use Rattle.iox2_domain.proofs.lemmas.fields.Standing.{some_is}
@@ -40,21 +40,21 @@ module _ {T U : Type 0} (f : Fields T U) (sound : IsDomain f) (i : ℕ) (x : Pub
   -- and stands there once
   pub remembered-once : (slot : ℕ) → times slot (x.history).items ≤ 1
   remembered-once slot =
-      once-times (numbers_of f.books x.id) slot (x.history).items (sound.well_formed.publishers x.id (seen_publisher f x) (publisher-stands f sound.parts i x here)).history_once
+      once-times (number_in_slot f.books x.id) slot (x.history).items (sound.well_formed.publishers x.id (seen_publisher f x) (publisher-stands f sound.parts i x here)).history_once
 
   -- ---- how often a slot stands in one connection
 
-  box-is : (key : ℕ) (c : Link) → get f.connections key ≡ Some c → c.home.publisher ≡ x.id → (seen f).mailboxes x.id c.home.subscriber ≡ mailbox_of (numbers_of f.books x.id) c
-  box-is key c there its = mailboxes-are f x.id c.home.subscriber ∙ mailbox-there (numbers_of f.books) f.connections key x.id c.home.subscriber c sound.parts.apart there its refl
+  box-is : (key : ℕ) (c : Link) → get f.connections key ≡ Some c → c.home.publisher ≡ x.id → (seen f).mailboxes x.id c.home.subscriber ≡ mailbox_of (number_in_slot f.books x.id) c
+  box-is key c there its = mailboxes-are f x.id c.home.subscriber ∙ mailbox-there (number_in_slot f.books) f.connections key x.id c.home.subscriber c sound.parts.apart there its refl
 
   module _ (reclaimed : HasReclaimed f.connections x.keys) where
     stands-once : (slot key : ℕ) (c : Link) → get f.connections key ≡ Some c → c.home.publisher ≡ x.id → (times slot (kept_slots c) ≡ stands_in slot c) × (stands_in slot c ≤ 1)
     stands-once slot key c there its =
         let all : times slot (kept_slots c) + times slot c.returned ≡ stands_in slot c = times-kept slot c in
         let none : times slot c.returned ≡ 0 = ap (times slot) (none_returned f sound i x here reclaimed key c there its) in
-        let numbers : numbers_in ((seen f).mailboxes x.id c.home.subscriber) ≡ map (numbers_of f.books x.id) (kept_slots c) =
-        ap numbers_in (box-is key c there its) ∙ numbers-are_kept (numbers_of f.books x.id) c in
-        let once : times slot (kept_slots c) ≤ 1 = once-times (numbers_of f.books x.id) slot (kept_slots c) (subst IsOnce numbers (sound.well_formed.mailboxes x.id c.home.subscriber).within.once) in
+        let numbers : numbers_in ((seen f).mailboxes x.id c.home.subscriber) ≡ map (number_in_slot f.books x.id) (kept_slots c) =
+        ap numbers_in (box-is key c there its) ∙ numbers-are_kept (number_in_slot f.books x.id) c in
+        let once : times slot (kept_slots c) ≤ 1 = once-times (number_in_slot f.books x.id) slot (kept_slots c) (subst IsOnce numbers (sound.well_formed.mailboxes x.id c.home.subscriber).within.once) in
         (omega (arith, all, none), omega (arith, all, none, once))
 
     few : (slot key : ℕ) → stands x.id slot (get f.connections key) ≤ 1
@@ -88,8 +88,8 @@ module _ {T U : Type 0} (f : Fields T U) (sound : IsDomain f) (i : ℕ) (x : Pub
             let there : 0 < stands_in slot c = omega (arith, h, is) in
             let numbers : has_numbers ((seen f).mailboxes x.id c.home.subscriber) ≡ true =
             ap has_numbers (box-is key c e its)
-            ∙ has_numbers-contains (mailbox_of (numbers_of f.books x.id) c) (numbers_of f.books x.id slot)
-            (number-of_slot (numbers_of f.books x.id) c slot (none_returned f sound i x here reclaimed key c e its) there) in
+            ∙ has_numbers-contains (mailbox_of (number_in_slot f.books x.id) c) (number_in_slot f.books x.id slot)
+            (number-of_slot (number_in_slot f.books x.id) c slot (none_returned f sound i x here reclaimed key c e its) there) in
             let leads : LeadsTo (seen_publisher f x).ends c.home.subscriber = (sound.well_formed.mailboxes x.id c.home.subscriber).sender_end (seen_publisher f x) (publisher-stands f sound.parts i x here) numbers in
             (leads.0, leading c e its leads.0 (get_or x.keys leads.0 None) refl (sym (occupant-sender_ends f.connections x.keys leads.0) ∙ leads.1))
         | inr away ↦ absurd (let is : stands x.id slot (Some c) ≡ 0 = ap (λ t. cond {A = ℕ} t (stands_in slot c) 0) (ne_eqb c.home.publisher x.id away) in omega (arith, h, is))
@@ -99,7 +99,7 @@ module _ {T U : Type 0} (f : Fields T U) (sound : IsDomain f) (i : ℕ) (x : Pub
     pub held-few : (slot : ℕ) → (holders_at b slot ≤ length x.keys + 2) × (times slot (x.history).items ≤ 1)
     held-few slot =
         let u = sound.well_formed.publishers x.id (seen_publisher f x) (publisher-stands f sound.parts i x here) in
-        let lent : times slot x.loans ≤ 1 = once-times (numbers_of f.books x.id) slot x.loans u.loans_once in
+        let lent : times slot x.loans ≤ 1 = once-times (number_in_slot f.books x.id) slot x.loans u.loans_once in
         let remembered : times slot (x.history).items ≤ 1 = remembered-once slot in
         let standing : sum_by (stands x.id slot) f.connections.slots ≤ length x.keys = sum-keys (stands x.id slot) refl x.keys f.connections.slots (few slot) (known slot) in
         (omega (arith, book-counts f sound.parts i x here b at slot, lent, remembered, standing), remembered)

@@ -27,7 +27,7 @@ use Rattle.iox2_laws.proofs.Puts.{put_at-same, put_at-twice}
 use Rattle.iox2_laws.proofs.SenderSides.{sender_side_begins, performed_keeps}
 use Rattle.iox2_domain.specs.Ports.{PublisherFields}
 use Rattle.iox2_domain.specs.Kept.{state_of, entries_of}
-use Rattle.iox2_domain.specs.Fields.{Fields, kept_of, publisher_of, numbers_of}
+use Rattle.iox2_domain.specs.Fields.{Fields, kept_of, publisher_of, number_in_slot}
 use Rattle.iox2_domain.specs.Invariant.{IsDomain}
 use Rattle.iox2_domain.specs.Connects.{histories_of, MakesSenderEnd, ConnectsSender}
 use Rattle.iox2_domain.specs.Histories.{with_history_waiting, HasNewEnd, HandsOut}
@@ -150,7 +150,7 @@ module _ {T U : Type 0} (environment : Environment) (f : Fields T U) (sound : Is
   waits-is : with_history_waiting f1 keyed made.link ≡ with_sender_side s x.id P full
   waits-is =
       (λ t. record (made.state t) {
-        mailboxes = with_box (made.state t).mailboxes x.id q (with_waiting (last_n size (map (numbers_of ((made.fields t).books) x.id) (x.history).items)) ((made.state t).mailboxes x.id q));
+        mailboxes = with_box (made.state t).mailboxes x.id q (with_waiting (last_n size (map (number_in_slot ((made.fields t).books) x.id) (x.history).items)) ((made.state t).mailboxes x.id q));
       })
       ∙ ap (λ (boxes : ℕ → ℕ → Mailbox). record (with_sender_side s x.id P full) { mailboxes = boxes }) boxes-are
     where

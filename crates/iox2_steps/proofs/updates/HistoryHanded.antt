@@ -25,7 +25,7 @@ use Rattle.iox2_laws.proofs.NumberLemmas.{contains_in_append, contains_in_last_n
 use Rattle.iox2_laws.proofs.Puts.{at_each}
 use Rattle.iox2_domain.specs.Ports.{PublisherFields}
 use Rattle.iox2_domain.specs.Kept.{Sent_message, state_of}
-use Rattle.iox2_domain.specs.Fields.{Fields, kept_of, numbers_of, contents_at, message_of}
+use Rattle.iox2_domain.specs.Fields.{Fields, kept_of, number_in_slot, contents_at, message_of}
 use Rattle.iox2_domain.specs.Invariant.{IsDomain, IsOwned, HasLoneLoans, HasNumber, is_lent, is_loan_in}
 use Rattle.iox2_domain.specs.Histories.{with_history_waiting, HandsOut}
 use Rattle.iox2_domain.proofs.lemmas.fields.ConnectionEnds.{publisher-stands}
@@ -95,31 +95,31 @@ module _ {T U : Type 0} (f : Fields T U) (sound : IsDomain f) (i : ℕ) (x : Pub
 
   -- ---- the state
 
-  box-is : (seen f).mailboxes x.id c.home.subscriber ≡ mailbox_of (numbers_of f.books x.id) c
-  box-is = mailboxes-are f x.id c.home.subscriber ∙ mailbox-there (numbers_of f.books) f.connections key x.id c.home.subscriber c sound.parts.apart there its refl
+  box-is : (seen f).mailboxes x.id c.home.subscriber ≡ mailbox_of (number_in_slot f.books x.id) c
+  box-is = mailboxes-are f x.id c.home.subscriber ∙ mailbox-there (number_in_slot f.books) f.connections key x.id c.home.subscriber c sound.parts.apart there its refl
 
-  filled-is : mailbox_of (numbers_of f.books x.id) filled ≡ with_waiting (last_n c.buffer (seen_publisher f x).history) ((seen f).mailboxes x.id c.home.subscriber)
+  filled-is : mailbox_of (number_in_slot f.books x.id) filled ≡ with_waiting (last_n c.buffer (seen_publisher f x).history) ((seen f).mailboxes x.id c.home.subscriber)
   filled-is =
-      (λ t. record (mailbox_of (numbers_of f.books x.id) filled) { waiting = last-map (numbers_of f.books x.id) c.buffer (x.history).items t })
+      (λ t. record (mailbox_of (number_in_slot f.books x.id) filled) { waiting = last-map (number_in_slot f.books x.id) c.buffer (x.history).items t })
       ∙ ap (λ (box : Mailbox). with_waiting (last_n c.buffer (seen_publisher f x).history) box) (sym box-is)
 
   handed-is : state_of (kept_of handed) ≡ with_history_waiting f x c
   handed-is =
       recounted-is f sound x.id x.book b at mine holders connections recounts
       ∙ ap (λ (boxes : ℕ → ℕ → Mailbox). record (seen f) { mailboxes = boxes })
-      (mailboxes-changed (numbers_of f.books) f.connections connections key c filled sound.parts.apart there refl (Updates-with_value f.connections key c filled there)
-      ∙ ap (λ (p : ℕ). with_box (mailboxes_of (numbers_of f.books) f.connections) p c.home.subscriber (mailbox_of (numbers_of f.books p) filled)) its
-      ∙ ap (λ (boxes : ℕ → ℕ → Mailbox). with_box boxes x.id c.home.subscriber (mailbox_of (numbers_of f.books x.id) filled)) (sym (fun_ext (λ p. fun_ext (λ q. mailboxes-are f p q))))
+      (mailboxes-changed (number_in_slot f.books) f.connections connections key c filled sound.parts.apart there refl (Updates-with_value f.connections key c filled there)
+      ∙ ap (λ (p : ℕ). with_box (mailboxes_of (number_in_slot f.books) f.connections) p c.home.subscriber (mailbox_of (number_in_slot f.books p) filled)) its
+      ∙ ap (λ (boxes : ℕ → ℕ → Mailbox). with_box boxes x.id c.home.subscriber (mailbox_of (number_in_slot f.books x.id) filled)) (sym (fun_ext (λ p. fun_ext (λ q. mailboxes-are f p q))))
       ∙ ap (with_box (seen f).mailboxes x.id c.home.subscriber) filled-is)
 
   -- ---- who holds messages
 
   nothing-elsewhere : ((seen f).mailboxes x.id c.home.subscriber).others ≡ []
   nothing-elsewhere =
-      ap (λ (box : Mailbox). box.others) box-is ∙ ap (numbered (numbers_of f.books x.id)) (no-length c.others (omega (arith, empty)))
+      ap (λ (box : Mailbox). box.others) box-is ∙ ap (numbered (number_in_slot f.books x.id)) (no-length c.others (omega (arith, empty)))
 
   nothing-lent : ((seen f).mailboxes x.id c.home.subscriber).borrowed ≡ []
-  nothing-lent = ap (λ (box : Mailbox). box.borrowed) box-is ∙ none-lent (numbers_of f.books x.id) c.borrowed (omega (arith, empty))
+  nothing-lent = ap (λ (box : Mailbox). box.borrowed) box-is ∙ none-lent (number_in_slot f.books x.id) c.borrowed (omega (arith, empty))
 
   -- who holds a message now held it before
   held-before : (p n : ℕ) → IsHeldMessage (with_history_waiting f x c) p n → IsHeldMessage (seen f) p n
@@ -148,10 +148,10 @@ module _ {T U : Type 0} (f : Fields T U) (sound : IsDomain f) (i : ℕ) (x : Pub
   no-loan : (slot : ℕ) → 0 < times slot (x.history).items → is_loan_in b slot ≡ true → ⊥
   no-loan slot some loan =
       let number = number-at f sound x.book slot b at in
-      let n : ℕ = numbers_of f.books x.id slot in
-      let kept = sound.entries x.id n (In_history (seen_publisher f x) (publisher-stands f sound.parts i x here) (contains-map (numbers_of f.books x.id) (x.history).items slot (times-stands slot (x.history).items some))) in
+      let n : ℕ = number_in_slot f.books x.id slot in
+      let kept = sound.entries x.id n (In_history (seen_publisher f x) (publisher-stands f sound.parts i x here) (contains-map (number_in_slot f.books x.id) (x.history).items slot (times-stands slot (x.history).items some))) in
       let place = entry-there f n kept.0 kept.1 in
-      let has : HasNumber f.books x.book slot n = record { book = b; stands = at; in_use = remembered-in_use f sound i x here b at slot some; number = sym number ∙ ap (λ (p : ℕ). numbers_of f.books p slot) mine } in
+      let has : HasNumber f.books x.book slot n = record { book = b; stands = at; in_use = remembered-in_use f sound i x here b at slot some; number = sym number ∙ ap (λ (p : ℕ). number_in_slot f.books p slot) mine } in
       let same = sound.parts.numbered.one place.0 x.book place.1 slot n (has_number f.contents f.books place.0 place.1 n (Sent_message n kept.0) place.2 (eq-eqb n n refl)) has in
       let lies : lies_at f x.book slot ≡ Some (Sent_message n kept.0) = sym (ap (λ j. lies_at f x.book j) same.1) ∙ sym (ap (λ k. lies_at f k place.1) same.0) ∙ place.2 in
       let parts = message_in-parts b (contents_at f.contents x.book) slot (Sent_message n kept.0) (sym (message_at-slot f.contents f.books x.book slot b at) ∙ lies) in

@@ -24,7 +24,7 @@ use Rattle.iox2_connections.proofs.LookUps.{look_up-found}
 use Rattle.iox2_connections.specs.Mailboxes.{mailbox_of, mailbox_if_any, is_between, sender_ends, subscriber_of_key, publisher_of_key, numbered}
 use Rattle.iox2_domain.specs.WarningRing.{warning_ring}
 use Rattle.iox2_domain.specs.Ports.{PublisherFields, SubscriberFields}
-use Rattle.iox2_domain.specs.Fields.{Fields, subscriber_of, numbers_of}
+use Rattle.iox2_domain.specs.Fields.{Fields, subscriber_of, number_in_slot}
 use Rattle.iox2_domain.specs.Invariant.{IsDomain, SenderHas, details_of, connection_count}
 use Rattle.iox2_domain.specs.Updates.{MakesConnection, home_of, key_from}
 use Rattle.iox2_domain.specs.Connects.{ConnectsSender, MakesSenderEnd}
@@ -95,12 +95,12 @@ module _ {T U : Type 0} (environment : Environment) (f : Fields T U) (sound : Is
     -- no slot stands in a connection of which the publisher doesn't know
     nobody-in : (key : ℕ) (c : Link) → get f.connections key ≡ Some c → c.home.publisher ≡ x.id → c.home.subscriber ≡ y.id → c.home.subscriber_place ≡ j → load c ≡ 0
     nobody-in key c at its to place =
-        let box : (seen f).mailboxes x.id y.id ≡ mailbox_of (numbers_of f.books x.id) c =
-        mailboxes-are f x.id y.id ∙ ap (mailbox_if_any (numbers_of f.books x.id)) (look_up-found (is_between x.id y.id) f.connections.slots key c (sound.parts.apart.one x.id y.id) at (and_from _ _ (eq-eqb c.home.publisher x.id its) (eq-eqb c.home.subscriber y.id to))) in
+        let box : (seen f).mailboxes x.id y.id ≡ mailbox_of (number_in_slot f.books x.id) c =
+        mailboxes-are f x.id y.id ∙ ap (mailbox_if_any (number_in_slot f.books x.id)) (look_up-found (is_between x.id y.id) f.connections.slots key c (sound.parts.apart.one x.id y.id) at (and_from _ _ (eq-eqb c.home.publisher x.id its) (eq-eqb c.home.subscriber y.id to))) in
         let none_in = no-numbers environment f sound i j x y at_x at_y due free opened none in
-        let waits : length c.waiting ≡ 0 = nil-map (numbers_of f.books x.id) c.waiting (ap (λ (m : Mailbox). m.waiting) (sym box) ∙ none_in.1) in
-        let lent : length c.borrowed ≡ 0 = nil-map (numbers_of f.books x.id) c.borrowed (ap (λ (m : Mailbox). m.borrowed) (sym box) ∙ none_in.2) in
-        let elsewhere : length c.others ≡ 0 = nil-numbered (numbers_of f.books x.id) c.others (ap other_numbers (sym box) ∙ none_in.0) in
+        let waits : length c.waiting ≡ 0 = nil-map (number_in_slot f.books x.id) c.waiting (ap (λ (m : Mailbox). m.waiting) (sym box) ∙ none_in.1) in
+        let lent : length c.borrowed ≡ 0 = nil-map (number_in_slot f.books x.id) c.borrowed (ap (λ (m : Mailbox). m.borrowed) (sym box) ∙ none_in.2) in
+        let elsewhere : length c.others ≡ 0 = nil-numbered (number_in_slot f.books x.id) c.others (ap other_numbers (sym box) ∙ none_in.0) in
         let back : length c.returned ≡ 0 = elim (sound.parts.linked.returned key c at) [
           | inl has ↦ absurd (unknown has)
           | inr none ↦ ap (length {A = ℕ}) none

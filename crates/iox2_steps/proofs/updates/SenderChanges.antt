@@ -19,7 +19,7 @@ use Rattle.std.proofs.lemmas.Option.{none-some}
 use Rattle.iox2_domain.specs.WarningRing.{WarningRing}
 use Rattle.iox2_domain.specs.Ports.{PublisherFields, SubscriberFields}
 use Rattle.iox2_domain.specs.Kept.{Named, state_of, port_named, ids, is_named}
-use Rattle.iox2_domain.specs.Fields.{Fields, kept_of, publisher_of, numbers_of, blocked_send}
+use Rattle.iox2_domain.specs.Fields.{Fields, kept_of, publisher_of, number_in_slot, blocked_send}
 use Rattle.iox2_domain.specs.Invariant.{IsDomain, HasExpiredRoom, is_publisher}
 use Rattle.iox2_domain.proofs.lemmas.containers.LookUps.{IsOnly-map, map-at}
 use Rattle.iox2_domain.proofs.lemmas.containers.ChangedRecords.{changed-ids, changed-ports}
@@ -61,8 +61,8 @@ pub record FitsSender {T U : Type 0} (f : Fields T U) (i : ℕ) (x : PublisherFi
   pub linked : IsSenderLinked x.id connections keys
   pub keeps : (place key : ℕ) → get_or x.keys place None ≡ Some key → get_or keys place None ≡ Some key
   pub news : (key : ℕ) (c : Link) → get connections key ≡ Some c → (get f.connections key ≡ Some c) ⊎ IsNewOfSender f i x keys key_room key c
-  pub blocked : option_map (blocked_send (numbers_of f.books x.id) (sender_ends connections keys)) x.blocked
-      ≡ option_map (blocked_send (numbers_of f.books x.id) (sender_ends f.connections x.keys)) x.blocked
+  pub blocked : option_map (blocked_send (number_in_slot f.books x.id) (sender_ends connections keys)) x.blocked
+      ≡ option_map (blocked_send (number_in_slot f.books x.id) (sender_ends f.connections x.keys)) x.blocked
 
 module _ {T U : Type 0} (f : Fields T U) (sound : IsDomain f) (i : ℕ) (x : PublisherFields) (at : get_or f.publishers i None ≡ Some x)
     (keys : List (Option ℕ)) (key_room : ℕ) (is_due : Bool) (connections : Slab Link) (warnings : WarningRing) (fits : FitsSender f i x keys key_room connections) where

@@ -22,7 +22,7 @@ use Rattle.iox2_laws.proofs.Puts.{put_at-same, put_at-twice}
 use Rattle.iox2_laws.proofs.SenderSides.{SenderSideIsWellFormed, sender_side_begins, unused_keeps}
 use Rattle.iox2_domain.specs.Ports.{PublisherFields, SubscriberFields}
 use Rattle.iox2_domain.specs.Kept.{state_of}
-use Rattle.iox2_domain.specs.Fields.{Fields, kept_of, publisher_of, subscriber_of, numbers_of}
+use Rattle.iox2_domain.specs.Fields.{Fields, kept_of, publisher_of, subscriber_of, number_in_slot}
 use Rattle.iox2_domain.specs.Invariant.{IsDomain, ReceiverHas, details_of}
 use Rattle.iox2_domain.specs.Reaches.{Reaches}
 use Rattle.iox2_domain.specs.Drops.{with_waiting_dropped, LosesSenderEnd, StandsElsewhere}
@@ -64,14 +64,14 @@ module _ {T U : Type 0} (f : Fields T U) (sound : IsDomain f) where
   -- one that is gone has borrowed nothing
   pub gone-unused : (key : ℕ) (c : Link) → get f.connections key ≡ Some c → IsGone f.subscribers c.home.subscriber → c.borrowed ≡ []
   gone-unused key c at gone = by c.borrowed refl where
-    box : (state_of (kept_of f)).mailboxes c.home.publisher c.home.subscriber ≡ mailbox_of (numbers_of f.books c.home.publisher) c
-    box = mailboxes-are f c.home.publisher c.home.subscriber ∙ mailbox-there (numbers_of f.books) f.connections key c.home.publisher c.home.subscriber c sound.parts.apart at refl refl
+    box : (state_of (kept_of f)).mailboxes c.home.publisher c.home.subscriber ≡ mailbox_of (number_in_slot f.books c.home.publisher) c
+    box = mailboxes-are f c.home.publisher c.home.subscriber ∙ mailbox-there (number_in_slot f.books) f.connections key c.home.publisher c.home.subscriber c sound.parts.apart at refl refl
 
     by : (slots : List ℕ) → c.borrowed ≡ slots → c.borrowed ≡ []
     by [] e = e
     by (slot ∷ slots) e =
         let lent : has_borrows ((state_of (kept_of f)).mailboxes c.home.publisher c.home.subscriber) ≡ true =
-        ap has_borrows box ∙ ap (λ (ns : List ℕ). has_borrows (record (mailbox_of (numbers_of f.books c.home.publisher) c) { borrowed = map (numbers_of f.books c.home.publisher) ns })) e in
+        ap has_borrows box ∙ ap (λ (ns : List ℕ). has_borrows (record (mailbox_of (number_in_slot f.books c.home.publisher) c) { borrowed = map (number_in_slot f.books c.home.publisher) ns })) e in
         let y = (sound.well_formed.mailboxes c.home.publisher c.home.subscriber).receiver_end lent in
         absurd (gone-is c.home.subscriber gone y.0 y.1)
 
@@ -162,9 +162,9 @@ module _ {T U : Type 0} (f : Fields T U) (sound : IsDomain f) (i j : ℕ) (x : P
   unused : has_borrows (s.mailboxes x.id c.home.subscriber) ≡ true → ⊥
   unused lent =
       let own = end-own f sound i j x here due key has c r.drops.stood in
-      let box : s.mailboxes x.id c.home.subscriber ≡ mailbox_of (numbers_of f.books x.id) c =
-      mailboxes-are f x.id c.home.subscriber ∙ mailbox-there (numbers_of f.books) f.connections key x.id c.home.subscriber c sound.parts.apart r.drops.stood own.publisher refl in
-      let none : false ≡ true = sym (ap (λ (ns : List ℕ). not (is_nil (map (numbers_of f.books x.id) ns))) r.unused) ∙ sym (ap has_borrows box) ∙ lent in
+      let box : s.mailboxes x.id c.home.subscriber ≡ mailbox_of (number_in_slot f.books x.id) c =
+      mailboxes-are f x.id c.home.subscriber ∙ mailbox-there (number_in_slot f.books) f.connections key x.id c.home.subscriber c sound.parts.apart r.drops.stood own.publisher refl in
+      let none : false ≡ true = sym (ap (λ (ns : List ℕ). not (is_nil (map (number_in_slot f.books x.id) ns))) r.unused) ∙ sym (ap has_borrows box) ∙ lent in
       absurd cc
 
   keeps : SenderSideIsWellFormed s x.id P (disconnected side j (Some c.home.subscriber)).ends (disconnected side j (Some c.home.subscriber)).mailboxes

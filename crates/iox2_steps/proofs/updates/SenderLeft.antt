@@ -19,7 +19,7 @@ use Rattle.iox2_domain.specs.Midway.{with_channels_of}
 use Rattle.iox2_steps.proofs.updates.FollowedChannels.{follow-fewer}
 use Rattle.iox2_domain.specs.Ports.{PublisherFields}
 use Rattle.iox2_domain.specs.Kept.{state_of}
-use Rattle.iox2_domain.specs.Fields.{Fields, kept_of, publisher_of, numbers_of, blocked_send}
+use Rattle.iox2_domain.specs.Fields.{Fields, kept_of, publisher_of, number_in_slot, blocked_send}
 use Rattle.iox2_domain.specs.Invariant.{IsDomain, SenderHas, ReceiverHas}
 use Rattle.iox2_domain.proofs.lemmas.containers.ChangedRecords.{changed-here, changed-stood, changed-still}
 use Rattle.iox2_domain.proofs.lemmas.containers.ConnectionKeys.{map-set_place, set_place-here, set_place-others}
@@ -155,7 +155,7 @@ module _ {T U : Type 0} (f : Fields T U) (sound : IsDomain f) (i j : ℕ) (x : P
   after-port : (publisher_of f.books f.connections changed).port ≡ port_after
   after-port = λ t. record port_after {
     ends = map-set_place (subscriber_of_key f.connections) refl x.keys j None t;
-    blocked = nothing-blocked (blocked_send (numbers_of f.books x.id) (sender_ends f.connections keys)) (blocked_send (numbers_of f.books x.id) (sender_ends f.connections x.keys)) x.blocked free t;
+    blocked = nothing-blocked (blocked_send (number_in_slot f.books x.id) (sender_ends f.connections keys)) (blocked_send (number_in_slot f.books x.id) (sender_ends f.connections x.keys)) x.blocked free t;
   }
 
   -- the machine sees that the end is gone

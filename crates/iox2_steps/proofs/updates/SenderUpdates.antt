@@ -28,7 +28,7 @@ use Rattle.iox2_domain.specs.Kept.{state_of, entries_of}
 use Rattle.iox2_domain.specs.Fields.{Fields, kept_of, publisher_of, subscriber_of}
 use Rattle.iox2_domain.specs.Invariant.{IsDomain}
 use Rattle.iox2_domain.specs.Updates.{is_publisher_due, subscriber_but_room}
-use Rattle.iox2_domain.specs.Connects.{histories_of, SenderChannelsFollow, ConnectsSender, UpdatesPublisher}
+use Rattle.iox2_domain.specs.Connects.{histories_of, SenderChannelsFollow, ConnectsSender, UpdatesKeptPublisher}
 use Rattle.iox2_domain.proofs.lemmas.fields.Views.{unblocked}
 use Rattle.iox2_domain.proofs.lemmas.fields.ConnectionEnds.{publisher-stands}
 use Rattle.iox2_domain.proofs.lemmas.containers.ChangedRecords.{changed-here}
@@ -151,7 +151,7 @@ module _ {T U : Type 0} (environment : Environment) (f : Fields T U) (sound : Is
           (receiving_buffer t) (has_receiver_end t x.id) j (occupant t.subscriber_places j) (sender_side t x.id (publisher_of f'.books f'.connections walking).port) step.side first) walks.state step.steps))
 
     -- the publisher is updated where the walk is over
-    pub walk-updates : x.is_due ≡ true → length f.subscribers ≤ j → UpdatesPublisher environment f i x f' failure
+    pub walk-updates : x.is_due ≡ true → length f.subscribers ≤ j → UpdatesKeptPublisher environment f i x f' failure
     walk-updates due past = record {
       after = sender_channels_reset (with_sender_side (seen f) x.id (seen_publisher f x) walks.side) x.id;
       updates = due-updates environment (seen f) x.id (seen_publisher f x) (publisher-stands f sound.parts i x at) due walks.side failure (subst (Whole walks.side) (first_failure-none failure) (walks.walk walks.side None (walk-ends environment (seen f) x.id (seen_publisher f x) (publisher-stands f sound.parts i x at) j walks.side (omega (arith, listed)))));
@@ -168,7 +168,7 @@ module _ {T U : Type 0} (environment : Environment) (f : Fields T U) (sound : Is
     }
 
   -- a publisher that isn't due is as it is
-  pub idle-updates : x.is_due ≡ false → UpdatesPublisher environment f i x f None
+  pub idle-updates : x.is_due ≡ false → UpdatesKeptPublisher environment f i x f None
   idle-updates due = record {
     after = (seen f);
     updates = machine-idle environment (seen f) x.id (seen_publisher f x) (publisher-stands f sound.parts i x at) due;

@@ -24,7 +24,7 @@ use Rattle.iox2_laws.proofs.Puts.{at_each}
 use Rattle.iox2_laws.proofs.SenderSides.{sender_side_begins, dropped_keeps}
 use Rattle.iox2_domain.specs.Ports.{PublisherFields}
 use Rattle.iox2_domain.specs.Kept.{state_of}
-use Rattle.iox2_domain.specs.Fields.{Fields, kept_of, numbers_of}
+use Rattle.iox2_domain.specs.Fields.{Fields, kept_of, number_in_slot}
 use Rattle.iox2_domain.specs.Invariant.{IsDomain}
 use Rattle.iox2_domain.specs.Reaches.{Reaches}
 use Rattle.iox2_domain.specs.Drops.{with_waiting_dropped}
@@ -50,7 +50,7 @@ module _ {T U : Type 0} (f : Fields T U) (sound : IsDomain f) (i : ℕ) (x : Pub
   abbrev pub dropped_fields : Fields T U
   dropped_fields = recounted_fields f sound x.id x.book b at (book-own f sound.parts i x here b at) holders new drops.recounts
 
-  same_boxes : mailboxes_of (numbers_of f.books) f.connections ≡ s.mailboxes
+  same_boxes : mailboxes_of (number_in_slot f.books) f.connections ≡ s.mailboxes
   same_boxes = sym (fun_ext (λ p. fun_ext (λ r. mailboxes-are f p r)))
 
   -- the machine sees one mailbox changed
@@ -58,7 +58,7 @@ module _ {T U : Type 0} (f : Fields T U) (sound : IsDomain f) (i : ℕ) (x : Pub
   dropped-is =
       recounted-is f sound x.id x.book b at (book-own f sound.parts i x here b at) holders new drops.recounts
       ∙ ap (λ (boxes : ℕ → ℕ → Mailbox). record s { mailboxes = boxes })
-      (drops.mailboxes (numbers_of f.books) ∙ ap (λ (boxes : ℕ → ℕ → Mailbox). with_box boxes x.id q (waiting_dropped (boxes x.id q))) same_boxes)
+      (drops.mailboxes (number_in_slot f.books) ∙ ap (λ (boxes : ℕ → ℕ → Mailbox). with_box boxes x.id q (waiting_dropped (boxes x.id q))) same_boxes)
 
   -- who holds a message now held it before
   held-before : (p n : ℕ) → IsHeldMessage (with_waiting_dropped f x drops.link) p n → IsHeldMessage s p n

@@ -1,5 +1,5 @@
 ghost use Rattle.std.specs.Prelude.{◌≡◌, ℕ, [], ◌∷◌};
-ghost use Rattle.iox2_pubsub.specs.Live.{IsLiveSample, IsLiveSubscriber, IsSingleValued, IsUnwrittenLoan, StaysBut, Stays, unwritten_loan};
+ghost use Rattle.iox2_pubsub.specs.Live.{IsLiveSample, IsLiveSubscriber, IsSingleValued, NeverWaitsUnwritten, StaysBut, Stays, unwritten_loan};
 
 use crate::tests::fixtures::{domain, publisher_of, subscriber_of};
 use iox2_fixtures::{Reading, Weather, factory_for, publish};
@@ -10,7 +10,7 @@ use std::process::Abort;
 // A loan of the domain's first publisher, which is made for it.
 fn lend(rt: &impl Abort, domain: &mut Weather) -> SampleMutUninit
     requires { IsSingleValued domain.old }
-    ensures loan { IsUnwrittenLoan domain.new result }
+    ensures loan { NeverWaitsUnwritten domain.new result }
     ensures stays { Stays domain.old domain.new }
 {
     let factory = factory_for(domain);
@@ -24,7 +24,7 @@ fn lend(rt: &impl Abort, domain: &mut Weather) -> SampleMutUninit
 // which publisher it is of.
 fn written_back(domain: &mut Weather, loan: SampleMutUninit, celsius: u64) -> (u64, Key, u128)
     requires single_valued { IsSingleValued domain.old }
-    requires loan { IsUnwrittenLoan domain.old loan }
+    requires loan { NeverWaitsUnwritten domain.old loan }
     ensures written { result.0 ≡ celsius }
     ensures stays { StaysBut (unwritten_loan loan) domain.old domain.new }
 {

@@ -1,6 +1,6 @@
 //! What a user's functions know of handles after other calls, with nothing tested when they run.
 ghost use Rattle.std.specs.Prelude.{◌≡◌, true};
-ghost use Rattle.iox2_pubsub.specs.Live.{HasLender, IsLivePublisher, IsLiveSample, IsLiveSubscriber, IsSingleValued, IsUnwrittenLoan, Stays, StaysBut, unwritten_key, unwritten_loan};
+ghost use Rattle.iox2_pubsub.specs.Live.{HasLender, IsLivePublisher, IsLiveSample, IsLiveSubscriber, IsSingleValued, NeverWaitsUnwritten, Stays, StaysBut, unwritten_key, unwritten_loan};
 
 use crate::tests::fixtures::{domain, publisher_of, subscriber_of};
 use iox2_fixtures::{Reading, Weather, factory_for, publish, settings};
@@ -12,7 +12,7 @@ use iox2_pubsub::{
 // Sends what a publisher lent that is there, which isn't refused.
 fn send_lent(domain: &mut Weather, loan: SampleMutUninit, celsius: u64) -> usize
     requires single_valued { IsSingleValued domain.old }
-    requires loan { IsUnwrittenLoan domain.old loan }
+    requires loan { NeverWaitsUnwritten domain.old loan }
     requires lent { HasLender domain.old (unwritten_key loan) }
     ensures { StaysBut (unwritten_loan loan) domain.old domain.new }
 {
@@ -90,7 +90,7 @@ fn read_loan_twice(
 ) -> Result<(), ConnectionFailure>
     requires single_valued { IsSingleValued domain.old }
     requires publisher { IsLivePublisher domain.old publisher.now }
-    requires loan { IsUnwrittenLoan domain.old loan.now }
+    requires loan { NeverWaitsUnwritten domain.old loan.now }
     ensures { Stays domain.old domain.new }
 {
     let elements = loan.header(domain).number_of_elements;

@@ -10,7 +10,7 @@ use Rattle.iox2_machine.specs.machine.Records.{Publisher}
 use Rattle.iox2_connections.specs.Mailboxes.{subscriber_of_key, sender_ends}
 use Rattle.iox2_domain.specs.Ports.{PublisherFields, SubscriberFields}
 use Rattle.iox2_domain.specs.Kept.{state_of}
-use Rattle.iox2_domain.specs.Fields.{Fields, kept_of, publisher_of, subscriber_of, numbers_of, blocked_send}
+use Rattle.iox2_domain.specs.Fields.{Fields, kept_of, publisher_of, subscriber_of, number_in_slot, blocked_send}
 use Rattle.iox2_domain.specs.Invariant.{IsDomain, HasParts, SenderHas, ReceiverHas}
 use Rattle.iox2_machine.specs.machine.State.{is_blocked}
 use Rattle.iox2_domain.specs.declared.publisher_state.BlockedDelivery.{BlockedDelivery}
@@ -31,7 +31,7 @@ module _ {T U : Type 0} (f : Fields T U) (parts : HasParts f) where
   free-of p i x at is nothing = by x.blocked
       (sym (ap (λ o. option_map_or (λ (v : Publisher). is_some v.blocked) o false) (ap (state_of (kept_of f)).publishers (sym is) ∙ publisher-stands i x at)) ∙ nothing)
     where
-      by : (o : Option BlockedDelivery) → is_some (option_map (blocked_send (numbers_of f.books x.id) (sender_ends f.connections x.keys)) o) ≡ false → o ≡ None
+      by : (o : Option BlockedDelivery) → is_some (option_map (blocked_send (number_in_slot f.books x.id) (sender_ends f.connections x.keys)) o) ≡ false → o ≡ None
       by None e = refl
       by (Some b) e = absurd cc
 

@@ -11,7 +11,7 @@ use Rattle.iox2_machine.specs.machine.State.{State}
 use Rattle.iox2_connections.specs.Mailboxes.{subscriber_of_key, publisher_of_key, receiver_ends}
 use Rattle.iox2_domain.specs.Ports.{PublisherFields, SubscriberFields}
 use Rattle.iox2_domain.specs.Kept.{state_of, port_named, ids}
-use Rattle.iox2_domain.specs.Fields.{Fields, kept_of, publisher_of, subscriber_of, numbers_of, blocked_send}
+use Rattle.iox2_domain.specs.Fields.{Fields, kept_of, publisher_of, subscriber_of, number_in_slot, blocked_send}
 use Rattle.iox2_domain.specs.Invariant.{HasParts}
 use Rattle.iox2_domain.specs.Midway.{IsMidway, with_channels_of}
 use Rattle.iox2_domain.proofs.lemmas.containers.ChangedRecords.{map-agrees, ends-agree}
@@ -36,7 +36,7 @@ module _ {T U : Type 0} (f : Fields T U) (parts : HasParts f) (publishers : List
   sender-same i x at = λ k. record (publisher_of f.books f.connections x) {
     port = record (publisher_of f.books f.connections x).port {
       ends = ends k;
-      blocked = option_map (blocked_send (numbers_of f.books x.id) (ends k)) x.blocked;
+      blocked = option_map (blocked_send (number_in_slot f.books x.id) (ends k)) x.blocked;
     };
   } where
     ends : map (subscriber_of_key connections) x.keys ≡ map (subscriber_of_key f.connections) x.keys
@@ -69,7 +69,7 @@ module _ {T U : Type 0} (f : Fields T U) (parts : HasParts f) (publishers : List
 
   mailboxes-same : (state_of (kept_of after)).mailboxes ≡ (state_of (kept_of f)).mailboxes
   mailboxes-same = fun_ext (λ p. fun_ext (λ q. mailboxes-are after p q
-      ∙ lost-boxes f.connections connections (loses f parts publishers subscribers connections g) parts.apart (numbers_of f.books) p q ∙ sym (mailboxes-are f p q)))
+      ∙ lost-boxes f.connections connections (loses f parts publishers subscribers connections g) parts.apart (number_in_slot f.books) p q ∙ sym (mailboxes-are f p q)))
 
   -- the machine sees the ports alone, and the channels of the connections that are left
   pub forgotten-is : state_of (kept_of after) ≡ record (state_of (kept_of (record f { publishers = publishers; subscribers = subscribers }))) { channels = (state_of (kept_of after)).channels }

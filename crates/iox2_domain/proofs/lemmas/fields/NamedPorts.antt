@@ -14,7 +14,7 @@ use Rattle.iox2_connections.specs.LookUp.{look_up, IsOnly}
 use Rattle.iox2_connections.proofs.LookUps.{look_up-there, look_up-found}
 use Rattle.iox2_domain.specs.Kept.{Named, state_of, is_named, port_named, ids}
 use Rattle.iox2_domain.specs.Ports.{PublisherFields, SubscriberFields}
-use Rattle.iox2_domain.specs.Fields.{Fields, kept_of, numbers_of, publisher_of, subscriber_of}
+use Rattle.iox2_domain.specs.Fields.{Fields, kept_of, number_in_slot, publisher_of, subscriber_of}
 use Rattle.iox2_domain.proofs.lemmas.containers.LookUps.{look_up-map, map-at}
 
 module _ {T U : Type 0} (f : Fields T U) where
@@ -32,7 +32,7 @@ module _ {T U : Type 0} (f : Fields T U) where
 
   -- a publisher has as many loans there as slots that are lent
   pub as-many : (x : PublisherFields) → length (seen_publisher x).loans ≡ length x.loans
-  as-many x = length-map x.loans (numbers_of f.books x.id)
+  as-many x = length-map x.loans (number_in_slot f.books x.id)
 
   -- where it may lend a slot more it may there
   pub few-numbers : (x : PublisherFields) → length x.loans < x.max_loaned_samples → length (seen_publisher x).loans < (seen_publisher x).max_loaned_samples

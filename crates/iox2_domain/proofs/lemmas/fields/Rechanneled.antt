@@ -10,7 +10,7 @@ use Rattle.iox2_connections.specs.Counters.{stands}
 use Rattle.iox2_connections.specs.Homes.{IsApart}
 use Rattle.iox2_connections.specs.LookUp.{look_up}
 use Rattle.iox2_connections.specs.Mailboxes.{is_between, mailbox_if_any, mailboxes_of, channels_in}
-use Rattle.iox2_domain.specs.Fields.{Fields, kept_of, numbers_of}
+use Rattle.iox2_domain.specs.Fields.{Fields, kept_of, number_in_slot}
 use Rattle.iox2_domain.specs.Invariant.{IsDomain, HasParts, HasExpiredRoom, IsBetweenOpen, IsBookOf, IsCounted, NamesBooks, SenderHas, one_if_receivers, own_holders}
 use Rattle.iox2_domain.specs.Kept.{state_of, port_named, ids}
 use Rattle.iox2_domain.specs.Reaches.{Reaches}
@@ -76,7 +76,7 @@ module _ {T U : Type 0} (f : Fields T U) (sound : IsDomain f) (new : Slab Link) 
 
   boxes : (state_of (kept_of rechanneled)).mailboxes ≡ (state_of (kept_of f)).mailboxes
   boxes = fun_ext (λ p. fun_ext (λ q.
-      mailboxes-are rechanneled p q ∙ plain-boxes f.connections new same (numbers_of f.books) p q ∙ sym (mailboxes-are f p q)))
+      mailboxes-are rechanneled p q ∙ plain-boxes f.connections new same (number_in_slot f.books) p q ∙ sym (mailboxes-are f p q)))
 
   -- the machine sees the channels alone
   pub rechanneled-is : state_of (kept_of rechanneled) ≡ record (state_of (kept_of f)) { channels = channels_in new }

@@ -11,7 +11,7 @@ use Rattle.iox2_connections.specs.Homes.{SameHomes, fixed_of}
 use Rattle.iox2_connections.specs.Mailboxes.{mailboxes_of, subscriber_of_key, publisher_of_key}
 use Rattle.iox2_connections.proofs.MailboxChanges.{was}
 use Rattle.iox2_domain.specs.Kept.{state_of, port_named, ids}
-use Rattle.iox2_domain.specs.Fields.{Fields, kept_of, numbers_of}
+use Rattle.iox2_domain.specs.Fields.{Fields, kept_of, number_in_slot}
 use Rattle.iox2_domain.specs.Invariant.{IsLinked, IsBetweenOpen, SenderHas}
 use Rattle.iox2_domain.proofs.lemmas.fields.KeptChannels.{channels-are, channels-still}
 use Rattle.iox2_domain.proofs.lemmas.fields.Views.{mailboxes-are}
@@ -52,7 +52,7 @@ module _ {T U : Type 0} (f : Fields T U) (new : Slab Link) (same : SameHomes f.c
   channels = channels-are with_connections ∙ channels-still f.connections new same ∙ sym (channels-are f)
 
   -- the machine knows of the connections by the mailboxes alone
-  pub connections-are : state_of (kept_of with_connections) ≡ record (state_of (kept_of f)) { mailboxes = mailboxes_of (numbers_of f.books) new }
+  pub connections-are : state_of (kept_of with_connections) ≡ record (state_of (kept_of f)) { mailboxes = mailboxes_of (number_in_slot f.books) new }
   connections-are = λ i. record (state_of (kept_of f)) {
     publishers = λ p. port_named p (map (option_map (senders-seated f new seats i)) f.publishers);
     subscribers = λ q. port_named q (map (option_map (receivers-seated f new seats i)) f.subscribers);
@@ -62,7 +62,7 @@ module _ {T U : Type 0} (f : Fields T U) (new : Slab Link) (same : SameHomes f.c
     subscriber_places = ids (map (option_map (receivers-seated f new seats i)) f.subscribers);
   }
     where
-      boxes : (state_of (kept_of with_connections)).mailboxes ≡ mailboxes_of (numbers_of f.books) new
+      boxes : (state_of (kept_of with_connections)).mailboxes ≡ mailboxes_of (number_in_slot f.books) new
       boxes = fun_ext (λ p. fun_ext (λ q. mailboxes-are with_connections p q))
 
   seat-same : (c d : Link) → fixed_of c ≡ fixed_of d → seat_of c ≡ seat_of d

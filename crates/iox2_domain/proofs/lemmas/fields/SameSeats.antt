@@ -10,7 +10,7 @@ use Rattle.iox2_connections.specs.declared.connection.Home.{Home}
 use Rattle.iox2_connections.specs.Homes.{IsSenders}
 use Rattle.iox2_connections.specs.Finds.{IsReceivers}
 use Rattle.iox2_connections.specs.Mailboxes.{subscriber_of_key, publisher_of_key}
-use Rattle.iox2_domain.specs.Fields.{Fields, publisher_of, subscriber_of, numbers_of, blocked_send}
+use Rattle.iox2_domain.specs.Fields.{Fields, publisher_of, subscriber_of, number_in_slot, blocked_send}
 use Rattle.iox2_domain.specs.Invariant.{IsLinked, IsBetweenOpen, SenderHas, ReceiverHas, HasOpenReceiver}
 use mathlib.Core.Path.{fun_ext}
 use Rattle.iox2_domain.proofs.lemmas.fields.NamedPorts.{led_by}
@@ -60,7 +60,7 @@ module _ {T U : Type 0} (f : Fields T U) (new : Slab Link) (same : SameSeats f.c
   senders-seated = λ i x. record (publisher_of f.books f.connections x) {
     port = record (publisher_of f.books f.connections x).port {
       ends = map (seated-subscriber_of_key f.connections new same i) x.keys;
-      blocked = option_map (blocked_send (numbers_of f.books x.id) (map (seated-subscriber_of_key f.connections new same i) x.keys)) x.blocked;
+      blocked = option_map (blocked_send (number_in_slot f.books x.id) (map (seated-subscriber_of_key f.connections new same i) x.keys)) x.blocked;
     };
   }
 

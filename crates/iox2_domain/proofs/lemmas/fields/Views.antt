@@ -18,14 +18,14 @@ use Rattle.iox2_connections.proofs.LookUps.{look_up-there}
 use Rattle.iox2_domain.specs.Ports.{PublisherFields}
 use Rattle.iox2_domain.specs.declared.publisher_state.BlockedDelivery.{BlockedDelivery}
 use Rattle.iox2_domain.specs.Kept.{Kept, state_of, entries_of, stands_between, mailbox_if_between}
-use Rattle.iox2_domain.specs.Fields.{Fields, kept_of, numbers_of, between_of, blocked_send, publisher_of}
+use Rattle.iox2_domain.specs.Fields.{Fields, kept_of, number_in_slot, between_of, blocked_send, publisher_of}
 use Rattle.iox2_machine.specs.Stored.{IsHeldMessage, In_history, In_mailbox, In_blocked_send}
 use Rattle.iox2_domain.specs.Shows.{Shows, KeepsEntries}
 use Rattle.iox2_domain.proofs.lemmas.containers.LookUps.{look_up-map}
 
 module _ {T U : Type 0} (f : Fields T U) where
   -- the mailboxes are those of the connections, at the numbers in the books
-  pub mailboxes-are : (p q : ℕ) → (state_of (kept_of f)).mailboxes p q ≡ mailboxes_of (numbers_of f.books) f.connections p q
+  pub mailboxes-are : (p q : ℕ) → (state_of (kept_of f)).mailboxes p q ≡ mailboxes_of (number_in_slot f.books) f.connections p q
   mailboxes-are p q =
       ap mailbox_if_between (look_up-map (stands_between p q) (between_of f.books f.connections) f.connections.slots)
       ∙ by (look_up (is_between p q) f.connections.slots) refl
@@ -35,12 +35,12 @@ module _ {T U : Type 0} (f : Fields T U) where
       both false b e = absurd cc
 
       by : (o : Option Link) → look_up (is_between p q) f.connections.slots ≡ o
-          → mailbox_if_between (option_map (between_of f.books f.connections) o) ≡ mailbox_if_any (numbers_of f.books p) o
+          → mailbox_if_between (option_map (between_of f.books f.connections) o) ≡ mailbox_if_any (number_in_slot f.books p) o
       by None e = refl
       by (Some c) e =
           let there = look_up-there (is_between p q) f.connections.slots c e in
           let here : c.home.publisher ≡ p = eqb-true c.home.publisher p (both _ _ there.2) in
-          ap (λ r. mailbox_if_any (numbers_of f.books r) (Some c)) here
+          ap (λ r. mailbox_if_any (number_in_slot f.books r) (Some c)) here
 
 -- where nothing is blocked, no number and no end tells
 pub nothing-blocked : (g h : BlockedDelivery → BlockedSend) (o : Option BlockedDelivery) → o ≡ None → option_map g o ≡ option_map h o
@@ -48,7 +48,7 @@ nothing-blocked g h o none = ap (option_map g) none ∙ sym (ap (option_map h) n
 
 -- the machine's publisher isn't blocked where no delivery is
 pub unblocked : (books : Slab Book) (connections : Slab Link) (x : PublisherFields) → x.blocked ≡ None → ((publisher_of books connections x).port).blocked ≡ None
-unblocked books connections x free = ap (option_map (blocked_send (numbers_of books x.id) (sender_ends connections x.keys))) free
+unblocked books connections x free = ap (option_map (blocked_send (number_in_slot books x.id) (sender_ends connections x.keys))) free
 
 -- a publisher keeps its history and its blocked send
 pub record KeepsHeld (x y : Publisher) : Type 0 where

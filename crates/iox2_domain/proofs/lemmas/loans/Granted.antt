@@ -19,7 +19,7 @@ use Rattle.iox2_machine.specs.declared.errors.LoanError.{LoanError}
 use Rattle.iox2_machine.specs.declared.errors.LoanError.TheVariants.{OutOfMemory, ExceedsMaxLoans, ExceedsMaxLoanSize, InternalFailure}
 use Rattle.iox2_domain.specs.Ports.{PublisherFields}
 use Rattle.iox2_domain.specs.Kept.{state_of}
-use Rattle.iox2_domain.specs.Fields.{Fields, kept_of, publisher_of, numbers_of, is_book_of}
+use Rattle.iox2_domain.specs.Fields.{Fields, kept_of, publisher_of, number_in_slot, is_book_of}
 use Rattle.iox2_domain.specs.Invariant.{IsDomain, holders_of}
 use Rattle.iox2_domain.proofs.lemmas.slots.SlotsInUse.{loan-in_use, history-in_use, holders-are}
 use Rattle.iox2_domain.proofs.lemmas.loans.PublisherChanges.{with_publisher, changed-is}
@@ -123,7 +123,7 @@ module _ {T U : Type 0} (f : Fields T U) (sound : IsDomain f) (i : ℕ) (x : Pub
   abbrev books_after : Slab Book
   books_after = taken_books f sound x slot can user_header len
 
-  number-here : numbers_of books_after x.id slot ≡ f.next_message
+  number-here : number_in_slot books_after x.id slot ≡ f.next_message
   number-here =
       ap number_in (taken-found f sound x slot can user_header len x.id)
       ∙ ap (λ b. number_in (cond b (Some (taken_book f sound x slot can user_header len)) (look_up (is_book_of x.id) f.books.slots))) (eq-eqb (can.book).publisher x.id can.its)
@@ -135,17 +135,17 @@ module _ {T U : Type 0} (f : Fields T U) (sound : IsDomain f) (i : ℕ) (x : Pub
   -- the lender has the number among its loans
   lender-is : (publisher_of books_after f.connections lender).port ≡ record machine { loans = machine.loans ++ f.next_message ∷ []; longest_granted = max machine.longest_granted len; segments = segments }
   lender-is = λ t. record machine { loans = loans t; longest_granted = max x.longest_granted len; segments = segments; history = history t; blocked = blocked t } where
-    keeps : (p slot' : ℕ) → 0 < holders_of f.books p slot' → numbers_of books_after p slot' ≡ numbers_of f.books p slot'
+    keeps : (p slot' : ℕ) → 0 < holders_of f.books p slot' → number_in_slot books_after p slot' ≡ number_in_slot f.books p slot'
     keeps = taken-keeps f sound x slot can user_header len
 
-    loans : map (numbers_of books_after x.id) (x.loans ++ slot ∷ []) ≡ map (numbers_of f.books x.id) x.loans ++ f.next_message ∷ []
+    loans : map (number_in_slot books_after x.id) (x.loans ++ slot ∷ []) ≡ map (number_in_slot f.books x.id) x.loans ++ f.next_message ∷ []
     loans =
-        map-append (numbers_of books_after x.id) x.loans (slot ∷ [])
-        ∙ ap (λ n. map (numbers_of books_after x.id) x.loans ++ n ∷ []) number-here
+        map-append (number_in_slot books_after x.id) x.loans (slot ∷ [])
+        ∙ ap (λ n. map (number_in_slot books_after x.id) x.loans ++ n ∷ []) number-here
         ∙ ap (λ ns. ns ++ f.next_message ∷ [])
         (map-numbers f sound books_after keeps x.id x.loans (λ k e. rw (holders-are f sound i x at k) (loan-in_use f sound i x at k e)))
 
-    history : map (numbers_of books_after x.id) (x.history).items ≡ map (numbers_of f.books x.id) (x.history).items
+    history : map (number_in_slot books_after x.id) (x.history).items ≡ map (number_in_slot f.books x.id) (x.history).items
     history = map-numbers f sound books_after keeps x.id (x.history).items (λ k e. rw (holders-are f sound i x at k) (history-in_use f sound i x at k e))
 
     blocked : ((publisher_of books_after f.connections lender).port).blocked ≡ machine.blocked

@@ -16,7 +16,7 @@ use Rattle.iox2_contents.proofs.SlotReads.{set_same}
 use Rattle.iox2_domain.specs.Kept.{KeptBook, KeptMessage, state_of, loan_changed, with_loan_changed}
 use Rattle.iox2_domain.specs.Fields.{Fields, kept_of, map_from, message_in, contents_at, contents_in, kept_book}
 use Rattle.iox2_domain.specs.Invariant.{IsDomain}
-use Rattle.iox2_domain.specs.LoanCalls.{with_content}
+use Rattle.iox2_domain.specs.LoanCalls.{with_content_in_slot}
 use Rattle.iox2_domain.specs.LoanSlots.{LiesInSlot}
 use Rattle.iox2_domain.specs.Reaches.{Reaches}
 use Rattle.iox2_domain.proofs.lemmas.slots.Messages.{lies_at, message_at-slot}
@@ -54,16 +54,16 @@ module _ {T U : Type 0} (f : Fields T U) (sound : IsDomain f) (p n key slot : �
     after = with_change f sound p n key slot at cs at_c mark g changed change
 
     -- the content alone changes
-    pub content-is : after ≡ with_content f key slot g
+    pub content-is : after ≡ with_content_in_slot f key slot g
     content-is = λ t. record f {
       books = same-books f.books key slot at.book mark at.stands marks t;
       contents = slice_set f.contents key (Some (with_changed (contents_in (sym at_c t)) slot g));
     }
 
-    pub content-agrees : IsDomain (with_content f key slot g)
+    pub content-agrees : IsDomain (with_content_in_slot f key slot g)
     content-agrees = subst IsDomain content-is (change-agrees f sound p n key slot at cs at_c mark g changed change)
 
-    pub content-reaches : Reaches f (with_content f key slot g) (with_loan (state_of (kept_of f)) n (Some changed))
+    pub content-reaches : Reaches f (with_content_in_slot f key slot g) (with_loan (state_of (kept_of f)) n (Some changed))
     content-reaches = subst (λ (v : Fields T U). Reaches f v (with_loan (state_of (kept_of f)) n (Some changed))) content-is
         (change-reaches f sound p n key slot at cs at_c mark g changed change)
 
@@ -76,24 +76,24 @@ module _ {T U : Type 0} (f : Fields T U) (sound : IsDomain f) (p n key slot : �
 
       -- what lies in a slot
       slot-kept : (k s : ℕ) (b : Book) → get f.books k ≡ Some b
-          → message_in b (contents_at (with_content f key slot g).contents k) s ≡ change-message (message_in b (contents_at f.contents k) s)
+          → message_in b (contents_at (with_content_in_slot f key slot g).contents k) s ≡ change-message (message_in b (contents_at f.contents k) s)
       slot-kept k s b there =
-          sym (message_at-slot (with_content f key slot g).contents f.books k s b there)
+          sym (message_at-slot (with_content_in_slot f key slot g).contents f.books k s b there)
           ∙ ap (λ (v : Fields T U). lies_at v k s) (sym content-is)
           ∙ each-slot f sound p n key slot at cs at_c mark g changed change h h-is k s
           ∙ ap change-message (message_at-slot f.contents f.books k s b there)
 
       -- what is kept
-      pub content-kept : kept_of (with_content f key slot g) ≡ with_loan_changed n h (kept_of f)
+      pub content-kept : kept_of (with_content_in_slot f key slot g) ≡ with_loan_changed n h (kept_of f)
       content-kept = λ t. record (kept_of f) { books = books t } where
         book : (k : ℕ) (o : Option Book) → slice_get (f.books).slots k ≡ Some o
-            → kept_book (with_content f key slot g).contents k o ≡ option_map change-book (kept_book f.contents k o)
+            → kept_book (with_content_in_slot f key slot g).contents k o ≡ option_map change-book (kept_book f.contents k o)
         book k None there = refl
         book k (Some b) there =
             let stands : get f.books k ≡ Some b = get_or_from_slice_get (f.books).slots k (Some b) None there in
             ap (λ ms. Some (record { publisher = b.publisher; slots = ms }))
-            (map_from_zero-map (λ s holders. message_in b (contents_at (with_content f key slot g).contents k) s) (λ s holders. message_in b (contents_at f.contents k) s) change-message b.holders
+            (map_from_zero-map (λ s holders. message_in b (contents_at (with_content_in_slot f key slot g).contents k) s) (λ s holders. message_in b (contents_at f.contents k) s) change-message b.holders
             (λ s holders _. slot-kept k s b stands))
 
-        books : map_from (kept_book (with_content f key slot g).contents) 0 (f.books).slots ≡ map (option_map change-book) (map_from (kept_book f.contents) 0 (f.books).slots)
-        books = map_from_zero-map (kept_book (with_content f key slot g).contents) (kept_book f.contents) (option_map change-book) (f.books).slots book
+        books : map_from (kept_book (with_content_in_slot f key slot g).contents) 0 (f.books).slots ≡ map (option_map change-book) (map_from (kept_book f.contents) 0 (f.books).slots)
+        books = map_from_zero-map (kept_book (with_content_in_slot f key slot g).contents) (kept_book f.contents) (option_map change-book) (f.books).slots book

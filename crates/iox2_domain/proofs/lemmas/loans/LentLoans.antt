@@ -13,7 +13,7 @@ use Rattle.iox2_slots.specs.declared.slots.mark.SlotMark.TheVariants.{Unwritten,
 use Rattle.iox2_domain.specs.Kept.{Lent_message, state_of, with_loan_changed}
 use Rattle.iox2_domain.specs.Fields.{Fields, kept_of}
 use Rattle.iox2_domain.specs.Invariant.{IsDomain}
-use Rattle.iox2_domain.specs.LoanCalls.{HasContents, HoldsUnwritten, HoldsWritten, with_content, first_cell_changed, cells_changed, user_header_changed}
+use Rattle.iox2_domain.specs.LoanCalls.{HasContents, HoldsUnwritten, HoldsWritten, with_content_in_slot, first_cell_changed, cells_changed, user_header_changed}
 use Rattle.iox2_domain.specs.LoanSlots.{LiesInSlot}
 use Rattle.iox2_domain.specs.Reaches.{Reaches}
 use Rattle.iox2_domain.proofs.lemmas.slots.BookContents.{contents-there}
@@ -72,7 +72,7 @@ module _ {T U : Type 0} (f : Fields T U) (sound : IsDomain f) (p n key slot : �
   parts = loan-parts f sound p n key slot at cs at_c
 
   lent : (mark : SlotMark) → slice_get (at.book).marks slot ≡ Some mark → (g : ContentState T U → ContentState T U) (h : Loan T U → Loan T U)
-      → ChangesTo (at.book).publisher n parts.header parts.content parts.mark at.loan mark g (h at.loan) → IsLent f (with_content f key slot g) n at.loan h
+      → ChangesTo (at.book).publisher n parts.header parts.content parts.mark at.loan mark g (h at.loan) → IsLent f (with_content_in_slot f key slot g) n at.loan h
   lent mark marks g h change = record {
     agrees = content-agrees f sound p n key slot at cs at_c mark marks g (h at.loan) change;
     reaches = content-reaches f sound p n key slot at cs at_c mark marks g (h at.loan) change;
@@ -80,7 +80,7 @@ module _ {T U : Type 0} (f : Fields T U) (sound : IsDomain f) (p n key slot : �
   }
 
   -- the user header was handed out
-  pub header-lent : (user_header : U) → IsLent f (with_content f key slot (with_user_header user_header)) n at.loan (user_header_changed user_header)
+  pub header-lent : (user_header : U) → IsLent f (with_content_in_slot f key slot (with_user_header user_header)) n at.loan (user_header_changed user_header)
   header-lent user_header =
       lent parts.mark parts.marks (with_user_header user_header) (user_header_changed user_header)
       (header-changed at.book cs slot n at.loan parts (sound.well_formed.loans n at.loan at.is_out).complete user_header)
@@ -93,13 +93,13 @@ module _ {T U : Type 0} (f : Fields T U) (sound : IsDomain f) (p n key slot : �
     marks-unwritten = parts.marks ∙ ap Some (unwritten-mark at.book cs slot n at.loan parts unwritten)
 
     -- the first cell was handed out
-    pub cell-lent : (cell : Option T) → IsLent f (with_content f key slot (with_first_cell cell)) n at.loan (first_cell_changed cell)
+    pub cell-lent : (cell : Option T) → IsLent f (with_content_in_slot f key slot (with_first_cell cell)) n at.loan (first_cell_changed cell)
     cell-lent cell =
         lent Unwritten marks-unwritten (with_first_cell cell) (first_cell_changed cell)
         (cells-changed at.book cs slot n at.loan parts unwritten (λ xs. slice_set xs 0 cell) (λ xs. length-set xs 0 cell))
 
     -- the cells were handed out
-    pub cells-lent : (cells : List (Option T)) → IsLent f (with_content f key slot (with_cells cells)) n at.loan (cells_changed cells)
+    pub cells-lent : (cells : List (Option T)) → IsLent f (with_content_in_slot f key slot (with_cells cells)) n at.loan (cells_changed cells)
     cells-lent cells =
         lent Unwritten marks-unwritten (with_cells cells) (cells_changed cells)
         (cells-changed at.book cs slot n at.loan parts unwritten (λ xs. refill (length xs) xs cells) (λ xs. length-refill xs cells))
@@ -112,13 +112,13 @@ module _ {T U : Type 0} (f : Fields T U) (sound : IsDomain f) (p n key slot : �
     marks-written = parts.marks ∙ ap Some (written-mark at.book cs slot n at.loan parts written)
 
     -- the first value was handed out
-    pub value-lent : (value : T) → IsLent f (with_content f key slot (with_first_value value)) n at.loan (first_cell_changed (Some value))
+    pub value-lent : (value : T) → IsLent f (with_content_in_slot f key slot (with_first_value value)) n at.loan (first_cell_changed (Some value))
     value-lent value =
         lent Written marks-written (with_first_value value) (first_cell_changed (Some value))
         (values-changed at.book cs slot n at.loan parts written (λ xs. slice_set xs 0 value) (λ xs. slice_set xs 0 (Some value)) (λ xs. length-set xs 0 value) (λ xs. map-first Some xs value))
 
     -- the values were handed out
-    pub values-lent : (values : List T) → IsLent f (with_content f key slot (with_values values)) n at.loan (cells_changed (map Some values))
+    pub values-lent : (values : List T) → IsLent f (with_content_in_slot f key slot (with_values values)) n at.loan (cells_changed (map Some values))
     values-lent values =
         lent Written marks-written (with_values values) (cells_changed (map Some values))
         (values-changed at.book cs slot n at.loan parts written (λ xs. refill (length xs) xs values) (λ xs. refill (length xs) xs (map Some values)) (λ xs. length-refill xs values) (λ xs. map-refill Some xs values))

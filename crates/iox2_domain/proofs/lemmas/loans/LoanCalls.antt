@@ -23,7 +23,7 @@ use Rattle.iox2_domain.specs.Kept.{Lent_message, state_of}
 use Rattle.iox2_domain.specs.Fields.{Fields, kept_of, contents_at}
 use Rattle.iox2_domain.specs.Invariant.{IsDomain}
 use Rattle.iox2_domain.specs.LoanSlots.{LiesInSlot}
-use Rattle.iox2_domain.specs.LoanCalls.{HoldsUnwritten, HoldsWritten, HasCells, HasCell, HasLoanHeader, HasLoanUserHeader, HasContents, with_mark, with_values_written, WritesLoan, AssumesLoan}
+use Rattle.iox2_domain.specs.LoanCalls.{HoldsUnwritten, HoldsWritten, HasCells, HasCell, HasLoanHeader, HasLoanUserHeader, HasContents, with_slot_mark, with_values_written, WritesLoan, AssumesLoan}
 use Rattle.iox2_domain.proofs.lemmas.fields.SingleSettings.{single-settings}
 use Rattle.iox2_domain.proofs.lemmas.slots.BookContents.{contents-there}
 use Rattle.iox2_domain.proofs.lemmas.slots.Messages.{LiesIn, message_in-parts}
@@ -119,7 +119,7 @@ module _ {T U : Type 0} (f : Fields T U) (sound : IsDomain f) (p n key slot : �
             (at.loan, at.is_out, cells ∙ one-element (parts.content).cells cell one_there here)
 
       -- it is written
-      pub write-done : (values : List T) → length values ≡ length (at.loan).cells → (book : Book) → get f.books key ≡ Some book → (mid new : Fields T U) → mid ≡ with_mark f key slot book Written
+      pub write-done : (values : List T) → length values ≡ length (at.loan).cells → (book : Book) → get f.books key ≡ Some book → (mid new : Fields T U) → mid ≡ with_slot_mark f key slot book Written
           → (there written : List (ContentState T U)) → get_or mid.contents key None ≡ Some there → written ≡ with_changed there slot (written_content values)
           → new ≡ record mid { contents = slice_set mid.contents key (Some written) } → WritesLoan f new n values
       write-done values long book at_b mid new marked there written has changes is =
@@ -175,7 +175,7 @@ module _ {T U : Type 0} (f : Fields T U) (sound : IsDomain f) (p n key slot : �
 
 -- ---- what is written at the key
 
-module _ {T U : Type 0} (f : Fields T U) (sound : IsDomain f) (p n key slot : ℕ) (at : LiesInSlot f p n key slot) (mid : Fields T U) (marked : mid ≡ with_mark f key slot at.book Written) where
+module _ {T U : Type 0} (f : Fields T U) (sound : IsDomain f) (p n key slot : ℕ) (at : LiesInSlot f p n key slot) (mid : Fields T U) (marked : mid ≡ with_slot_mark f key slot at.book Written) where
   -- the contents are there still
   pub contents-still : HasContents mid key
   contents-still = let has = contents-there f sound.parts key at.book at.stands in (has.0, ap (λ (v : Fields T U). get_or v.contents key None) marked ∙ has.1)
@@ -262,7 +262,7 @@ module _ {T U : Type 0} (f : Fields T U) (sound : IsDomain f) (p n key slot : �
         )
 
     -- each is
-    pub assume-done : b ≡ true → (new : Fields T U) → new ≡ with_mark (record f { contents = slice_set f.contents key (Some left) }) key slot at.book Written → AssumesLoan f new n true
+    pub assume-done : b ≡ true → (new : Fields T U) → new ≡ with_slot_mark (record f { contents = slice_set f.contents key (Some left) }) key slot at.book Written → AssumesLoan f new n true
     assume-done e new is =
         let both = subst (λ (t : Bool). MatchBool t ((values : List T) × (map Some values ≡ (assumes.0).cells) × (left ≡ with_changed there slot (written_content values))) (left ≡ there)) e assumes.3 in
         let long : length both.0 ≡ length (at.loan).cells = sym (length-map both.0 Some) ∙ ap length (both.1 ∙ as-cells) in

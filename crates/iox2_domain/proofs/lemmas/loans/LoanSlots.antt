@@ -21,7 +21,7 @@ use Rattle.iox2_connections.proofs.MailboxChanges.{within_if_some}
 use Rattle.iox2_domain.specs.declared.message_slots.MessageSlot.{MessageSlot}
 use Rattle.iox2_domain.specs.Ports.{PublisherFields}
 use Rattle.iox2_domain.specs.Kept.{KeptMessage, Lent_message, Sent_message, state_of}
-use Rattle.iox2_domain.specs.Fields.{Fields, kept_of, publisher_of, numbers_of, message_of, message_in, contents_at}
+use Rattle.iox2_domain.specs.Fields.{Fields, kept_of, publisher_of, number_in_slot, message_of, message_in, contents_at}
 use Rattle.iox2_domain.specs.Invariant.{IsDomain, is_lent}
 use Rattle.iox2_domain.specs.LoanSlots.{IsLoanSlot, IsInNoSlot, HasNoLoan, LendsAt, LiesInSlot}
 use Rattle.iox2_domain.proofs.lemmas.fields.ConnectionEnds.{publisher-stands}
@@ -81,7 +81,7 @@ times-some (x ∷ xs) (suc j) lt =
 
 module _ {T U : Type 0} (f : Fields T U) (sound : IsDomain f) where
   -- the number of a slot in the book at the key
-  pub number-at : (key slot : ℕ) (b : Book) → get f.books key ≡ Some b → numbers_of f.books b.publisher slot ≡ slice_index b.numbers slot
+  pub number-at : (key slot : ℕ) (b : Book) → get f.books key ≡ Some b → number_in_slot f.books b.publisher slot ≡ slice_index b.numbers slot
   number-at key slot b stands =
       ap (λ o. option_map_or (λ (c : Book). slice_index c.numbers slot) o 0) (book-by_id f.books key b.publisher b (sound.parts.books.one_each b.publisher) stands refl)
 
@@ -124,9 +124,9 @@ module _ {T U : Type 0} (f : Fields T U) (sound : IsDomain f) where
       let lies = loan-lies x.id n live in
       let out = ((sound.well_formed.loans n live.0 live.1).is_out ((publisher_of f.books f.connections x).port)
       (ap (state_of (kept_of f)).publishers live.2 ∙ publisher-stands f sound.parts i x at)).0 in
-      let there = mapped-there (numbers_of f.books x.id) x.loans n out in
+      let there = mapped-there (number_in_slot f.books x.id) x.loans n out in
       let slot : ℕ = slice_index x.loans there.0 in
-      let number : slice_index b.numbers slot ≡ n = sym (number-at x.book slot b here) ∙ ap (λ p. numbers_of f.books p slot) its ∙ there.2 in
+      let number : slice_index b.numbers slot ≡ n = sym (number-at x.book slot b here) ∙ ap (λ p. number_in_slot f.books p slot) its ∙ there.2 in
       let same = sound.parts.numbered.one lies.0 x.book lies.1 slot n
       (record { book = lies.2; stands = lies.3; in_use = lies.5.in_use; number = lies.5.numbered })
       (record { book = b; stands = here; in_use = loans-in_use i there.0 x b at here its there.1; number = number }) in

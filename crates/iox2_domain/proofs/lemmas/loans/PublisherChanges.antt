@@ -19,7 +19,7 @@ use Rattle.iox2_connections.proofs.LookUps.{look_up-changed, look_up-found}
 use Rattle.iox2_domain.specs.declared.publisher_state.BlockedDelivery.{BlockedDelivery}
 use Rattle.iox2_domain.specs.Ports.{PublisherFields}
 use Rattle.iox2_domain.specs.Kept.{Named, state_of, port_named, ids, is_named}
-use Rattle.iox2_domain.specs.Fields.{Fields, kept_of, publisher_of, is_book_of, numbers_of}
+use Rattle.iox2_domain.specs.Fields.{Fields, kept_of, publisher_of, is_book_of, number_in_slot}
 use Rattle.iox2_domain.specs.Invariant.{IsLinked, HasBook, HasBooks, KeepsBooks, HasPublisherRoom, HasSegment, IsPlain, SenderHas, ReceiverHas, is_publisher, own_holders, is_loan_in, LendsBlocked}
 use Rattle.iox2_domain.specs.Shows.{KeepsEntries}
 use Rattle.iox2_domain.proofs.lemmas.containers.LookUps.{look_up-map}
@@ -321,5 +321,5 @@ module _ {T U : Type 0} (f : Fields T U) (i : ℕ) (x y : PublisherFields) (at :
             )
           where
             history_same : ((publisher_of f.books f.connections x).port).history ≡ ((publisher_of f.books f.connections y).port).history
-            history_same = ap (λ (n : ℕ). map (numbers_of f.books n) x.history.items) (sym id) ∙ ap (λ (h : Buffer ℕ). map (numbers_of f.books y.id) h.items) (sym history)
+            history_same = ap (λ (n : ℕ). map (number_in_slot f.books n) x.history.items) (sym id) ∙ ap (λ (h : Buffer ℕ). map (number_in_slot f.books y.id) h.items) (sym history)
         was p z false e here = (z, here, record { history = refl; blocked = refl })

@@ -19,7 +19,7 @@ use Rattle.iox2_connections.specs.LookUp.{look_up, IsOnly}
 use Rattle.iox2_connections.proofs.LookUps.{look_up-found}
 use Rattle.iox2_domain.specs.Ports.{PublisherFields}
 use Rattle.iox2_domain.specs.Kept.{KeptMessage, Lent_message, state_of, entries_of, entry_in, loan_in, is_numbered, message_numbered}
-use Rattle.iox2_domain.specs.Fields.{Fields, kept_of, is_book_of, numbers_of, message_in, message_of, contents_at}
+use Rattle.iox2_domain.specs.Fields.{Fields, kept_of, is_book_of, number_in_slot, message_in, message_of, contents_at}
 use Rattle.iox2_domain.specs.Invariant.{IsDomain, HasNumber, IsNumbered, HasRoomFrom, holders_of, HasLoneLoans}
 use Rattle.iox2_domain.proofs.lemmas.containers.SetRecords.{set-here, set-others, IsOnly-set, look_up-set}
 use Rattle.iox2_domain.proofs.lemmas.slots.Messages.{message_in-free, message_in-from, LiesIn, ChangesSlot, lies_at, message_numbered-others, message_numbered-found, message_numbered-nothing, has_number}
@@ -156,7 +156,7 @@ module _ {T U : Type 0} (f : Fields T U) (sound : IsDomain f) (x : PublisherFiel
   taken-number_others k away = get_or-set_other (can.book).numbers slot k f.next_message 0 away
 
   -- the number of each slot that had a holder stays
-  pub taken-keeps : (p k : ℕ) → 0 < holders_of f.books p k → numbers_of taken_books p k ≡ numbers_of f.books p k
+  pub taken-keeps : (p k : ℕ) → 0 < holders_of f.books p k → number_in_slot taken_books p k ≡ number_in_slot f.books p k
   taken-keeps p k in_use = ap number_in (taken-found p) ∙ by (eqb (can.book).publisher p) refl where
     number_in : Option Book → ℕ
     number_in o = option_map_or (λ (b : Book). slice_index b.numbers k) o 0

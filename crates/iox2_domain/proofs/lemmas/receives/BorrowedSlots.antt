@@ -12,7 +12,7 @@ use Rattle.iox2_connections.specs.Homes.{IsApart, SameHomes, fixed_of}
 use Rattle.iox2_connections.specs.Mailboxes.{mailbox_of, mailboxes_of}
 use Rattle.iox2_connections.specs.Takes.{BorrowsSlot}
 use Rattle.iox2_connections.proofs.MailboxChanges.{mailbox-there}
-use Rattle.iox2_domain.specs.Fields.{numbers_of, Fields}
+use Rattle.iox2_domain.specs.Fields.{number_in_slot, Fields}
 use Rattle.iox2_domain.specs.Receipts.{LiesAt}
 use Rattle.iox2_domain.specs.declared.sample_slots.Receipt.{Receipt}
 use mathlib.Core.List.{map-id}
@@ -42,7 +42,7 @@ module _ (old new : Slab Link) (key slot : ℕ) (c : Link) (at_c : get old key �
   -- it lies where a receipt says that names the key and the slot
   pub lies-there : {T U : Type 0} (f : Fields T U) (q : ℕ) (receipt : Receipt) → f.connections ≡ new → receipt.sample.connection ≡ key → receipt.sample.slot ≡ slot → receipt.publisher ≡ c.home.publisher
       → receipt.sample.subscriber ≡ c.home.subscriber → receipt.sample.book ≡ c.home.book → c.home.subscriber ≡ q
-      → receipt.sample.number ≡ numbers_of f.books c.home.publisher receipt.sample.slot → LiesAt f q receipt
+      → receipt.sample.number ≡ number_in_slot f.books c.home.publisher receipt.sample.slot → LiesAt f q receipt
   lies-there f q receipt connections key_is slot_is publisher_is its book_is subscriber_is number_is = record {
     connection = stays.0;
     stands = ap (λ (slab : Slab Link). get slab receipt.sample.connection) connections ∙ ap (get new) key_is ∙ stays.1;
@@ -51,5 +51,5 @@ module _ (old new : Slab Link) (key slot : ℕ) (c : Link) (at_c : get old key �
     its = its ∙ subscriber_is;
     book_is = book_is ∙ ap (λ (h : Home). h.book) (sym stays.2);
     borrowed = subst (Contains (stays.0).borrowed) (sym slot_is) borrowed;
-    number_is = number_is ∙ ap (λ (h : Home). numbers_of f.books h.publisher receipt.sample.slot) (sym stays.2);
+    number_is = number_is ∙ ap (λ (h : Home). number_in_slot f.books h.publisher receipt.sample.slot) (sym stays.2);
   }

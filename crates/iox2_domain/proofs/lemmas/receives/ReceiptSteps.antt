@@ -21,7 +21,7 @@ use Rattle.iox2_connections.proofs.Counts.{in_range}
 use Rattle.iox2_connections.proofs.MailboxChanges.{within_if_some}
 use Rattle.iox2_domain.specs.Ports.{SubscriberFields}
 use Rattle.iox2_domain.specs.Kept.{state_of}
-use Rattle.iox2_domain.specs.Fields.{Fields, kept_of, numbers_of}
+use Rattle.iox2_domain.specs.Fields.{Fields, kept_of, number_in_slot}
 use Rattle.iox2_domain.specs.Invariant.{IsBookOf, IsDomain}
 use Rattle.iox2_domain.specs.Reaches.{Reaches}
 use Rattle.iox2_domain.specs.Receipts.{receive_result, IsReceiptFor, TakesAs}
@@ -74,7 +74,7 @@ pub record TakesFrom {T U : Type 0} (old : Fields T U) (key : ℕ) (receipt : Re
   pub book_is : receipt.sample.book ≡ link.home.book
   pub publisher_is : receipt.publisher ≡ link.home.publisher
   pub subscriber_is : receipt.sample.subscriber ≡ link.home.subscriber
-  pub number_is : receipt.sample.number ≡ numbers_of old.books link.home.publisher receipt.sample.slot
+  pub number_is : receipt.sample.number ≡ number_in_slot old.books link.home.publisher receipt.sample.slot
 
 module _ {T U : Type 0} (f now : Fields T U) (same : f ≡ now) (sound : IsDomain now) (taken : Taken) (new : Slab Link) (takes : TakesSlot f.connections taken new) where
   -- the slot is within the book of its publisher
@@ -104,7 +104,7 @@ module _ {T U : Type 0} (f now : Fields T U) (same : f ≡ now) (sound : IsDomai
         book_is = is.book_is ∙ ap (λ (h : Home). h.book) takes.home_is;
         publisher_is = is.publisher_is ∙ ap (λ (h : Home). h.publisher) takes.home_is;
         subscriber_is = is.subscriber_is ∙ ap (λ (h : Home). h.subscriber) takes.home_is;
-        number_is = sym (ap (numbers_of now.books (takes.link).home.publisher) is.slot_is
+        number_is = sym (ap (number_in_slot now.books (takes.link).home.publisher) is.slot_is
             ∙ book-numbers now sound taken.connection (taken.home).book takes.link is.book has.stands has.has_book has.book_is taken.slot
             ∙ index-got (is.book).numbers taken.slot receipt.sample.number is.number_is);
       }
@@ -119,18 +119,18 @@ module _ {T U : Type 0} (f : Fields T U) (sound : IsDomain f) (i : ℕ) (y : Sub
   -- a message is taken
   pub takes-ready : (key : ℕ) (receipt : Receipt) (new : Fields T U) → Finds f.connections y.expired y.keys (Found.Ready key) → TakesFrom f key receipt new → TakesAs f y.id (Ok (Some receipt)) new
   takes-ready key receipt new finds from =
-      let reached : Reaches f new (with_all_mailboxes (state_of (kept_of f)) (mailboxes_of (numbers_of f.books) new.connections)) =
-      subst (λ (h : Fields T U). Reaches f h (with_all_mailboxes (state_of (kept_of f)) (mailboxes_of (numbers_of f.books) new.connections))) (sym from.only)
+      let reached : Reaches f new (with_all_mailboxes (state_of (kept_of f)) (mailboxes_of (number_in_slot f.books) new.connections)) =
+      subst (λ (h : Fields T U). Reaches f h (with_all_mailboxes (state_of (kept_of f)) (mailboxes_of (number_in_slot f.books) new.connections))) (sym from.only)
       (takes-reaches f sound i y at_y key receipt.sample.slot from.link from.stands new.connections finds from.takes from.homes from.others from.returned from.stay) in (
-        with_all_mailboxes (state_of (kept_of f)) (mailboxes_of (numbers_of f.books) new.connections),
+        with_all_mailboxes (state_of (kept_of f)) (mailboxes_of (number_in_slot f.books) new.connections),
         reached,
-        its-result (with_all_mailboxes (state_of (kept_of f)) (mailboxes_of (numbers_of f.books) new.connections)) (Got_sample receipt.publisher receipt.sample.number)
-            (subst (λ (p : ℕ). TakeSample (state_of (kept_of f)) y.id (receiver f sound i y at_y) (with_all_mailboxes (state_of (kept_of f)) (mailboxes_of (numbers_of f.books) new.connections)) (Got_sample p receipt.sample.number)) (sym from.publisher_is)
-            (subst (λ (n : ℕ). TakeSample (state_of (kept_of f)) y.id (receiver f sound i y at_y) (with_all_mailboxes (state_of (kept_of f)) (mailboxes_of (numbers_of f.books) new.connections)) (Got_sample (from.link).home.publisher n)) (sym from.number_is)
+        its-result (with_all_mailboxes (state_of (kept_of f)) (mailboxes_of (number_in_slot f.books) new.connections)) (Got_sample receipt.publisher receipt.sample.number)
+            (subst (λ (p : ℕ). TakeSample (state_of (kept_of f)) y.id (receiver f sound i y at_y) (with_all_mailboxes (state_of (kept_of f)) (mailboxes_of (number_in_slot f.books) new.connections)) (Got_sample p receipt.sample.number)) (sym from.publisher_is)
+            (subst (λ (n : ℕ). TakeSample (state_of (kept_of f)) y.id (receiver f sound i y at_y) (with_all_mailboxes (state_of (kept_of f)) (mailboxes_of (number_in_slot f.books) new.connections)) (Got_sample (from.link).home.publisher n)) (sym from.number_is)
             (takes-message f sound i y at_y key receipt.sample.slot from.link from.stands new.connections finds from.takes))),
         lies-there f.connections new.connections key receipt.sample.slot from.link from.stands from.homes reached.agrees.parts.apart from.takes new y.id receipt refl from.connection_is refl from.publisher_is from.subscriber_is from.book_is
             (found-ready f sound i y at_y key receipt.sample.slot from.link from.stands new.connections finds from.takes).0
-            (from.number_is ∙ ap (λ (h : Fields T U). numbers_of h.books (from.link).home.publisher receipt.sample.slot) (sym from.only)),
+            (from.number_is ∙ ap (λ (h : Fields T U). number_in_slot h.books (from.link).home.publisher receipt.sample.slot) (sym from.only)),
       )
 
   -- none can be taken

@@ -19,7 +19,7 @@ use Rattle.iox2_laws.proofs.ReceiveLaws.{take_sample_keeps}
 use Rattle.iox2_laws.proofs.ReleaseLaws.{at_each_mailbox}
 use Rattle.iox2_domain.specs.Ports.{SubscriberFields}
 use Rattle.iox2_domain.specs.Kept.{state_of}
-use Rattle.iox2_domain.specs.Fields.{Fields, kept_of, numbers_of, subscriber_of}
+use Rattle.iox2_domain.specs.Fields.{Fields, kept_of, number_in_slot, subscriber_of}
 use Rattle.iox2_domain.specs.Invariant.{IsDomain}
 use Rattle.iox2_domain.specs.Reaches.{Reaches}
 use Rattle.iox2_domain.proofs.lemmas.fields.ConnectionEnds.{subscriber-stands}
@@ -30,7 +30,7 @@ use mathlib.Core.Path.{fun_ext}
 
 module _ {T U : Type 0} (f : Fields T U) where
   -- all mailboxes are those of the connections
-  pub boxes-are : mailboxes_of (numbers_of f.books) f.connections ≡ (state_of (kept_of f)).mailboxes
+  pub boxes-are : mailboxes_of (number_in_slot f.books) f.connections ≡ (state_of (kept_of f)).mailboxes
   boxes-are = fun_ext (λ p. fun_ext (λ q. sym (mailboxes-are f p q)))
 
 module _ {T U : Type 0} (f : Fields T U) (sound : IsDomain f) (i : ℕ) (y : SubscriberFields) (at_y : get_or f.subscribers i None ≡ Some y) where
@@ -45,7 +45,7 @@ module _ {T U : Type 0} (f : Fields T U) (sound : IsDomain f) (i : ℕ) (y : Sub
       subst (λ (boxes : ℕ → ℕ → Mailbox). FindsFor y.id (f.config).subscriber_max_borrowed_samples f.connections receiver (λ p. boxes p y.id) found) (boxes-are f)
       (finds.finds y.id (f.config).subscriber_max_borrowed_samples receiver
       (record { apart = sound.parts.apart; kept = sound.parts.linked.expired i y at_y; linked = sound.parts.linked.receivers i y at_y; expired = refl; ends = refl })
-      (numbers_of f.books))
+      (number_in_slot f.books))
 
   -- nothing waits
   pub takes-nothing : Finds f.connections y.expired y.keys Found.Nothing → TakeSample (state_of (kept_of f)) y.id receiver (state_of (kept_of f)) No_sample
@@ -59,7 +59,7 @@ module _ {T U : Type 0} (f : Fields T U) (sound : IsDomain f) (i : ℕ) (y : Sub
   module _ (key slot : ℕ) (c : Link) (at_c : get f.connections key ≡ Some c) (new : Slab Link) (finds : Finds f.connections y.expired y.keys (Found.Ready key)) (takes : BorrowsSlot f.connections key slot new) where
     -- the message in the slot
     abbrev pub number_taken : ℕ
-    number_taken = numbers_of f.books c.home.publisher slot
+    number_taken = number_in_slot f.books c.home.publisher slot
 
     pub found-ready : (c.home.subscriber ≡ y.id) × (MayReceiveFrom (f.config).subscriber_max_borrowed_samples receiver (λ p. (state_of (kept_of f)).mailboxes p y.id) c.home.publisher)
     found-ready = subst (λ o. IsSomeAnd o (λ (d : Link). (d.home.subscriber ≡ y.id) × (MayReceiveFrom (f.config).subscriber_max_borrowed_samples receiver (λ p. (state_of (kept_of f)).mailboxes p y.id) d.home.publisher)))
@@ -67,22 +67,22 @@ module _ {T U : Type 0} (f : Fields T U) (sound : IsDomain f) (i : ℕ) (y : Sub
 
     -- the mailboxes change as the machine's do
     pub borrows : (box : Mailbox) × (BorrowsFirst ((state_of (kept_of f)).mailboxes c.home.publisher y.id) number_taken box)
-        × (with_all_mailboxes (state_of (kept_of f)) (mailboxes_of (numbers_of f.books) new) ≡ with_mailbox (state_of (kept_of f)) c.home.publisher y.id box)
+        × (with_all_mailboxes (state_of (kept_of f)) (mailboxes_of (number_in_slot f.books) new) ≡ with_mailbox (state_of (kept_of f)) c.home.publisher y.id box)
     borrows =
-        let t = takes.takes c at_c (numbers_of f.books) in
+        let t = takes.takes c at_c (number_in_slot f.books) in
         subst (λ (q : ℕ). (box : Mailbox) × BorrowsFirst ((state_of (kept_of f)).mailboxes c.home.publisher q) number_taken box
-        × (with_all_mailboxes (state_of (kept_of f)) (mailboxes_of (numbers_of f.books) new) ≡ with_mailbox (state_of (kept_of f)) c.home.publisher q box)) found-ready.0
+        × (with_all_mailboxes (state_of (kept_of f)) (mailboxes_of (number_in_slot f.books) new) ≡ with_mailbox (state_of (kept_of f)) c.home.publisher q box)) found-ready.0
         (subst (λ (boxes : ℕ → ℕ → Mailbox). (box : Mailbox) × BorrowsFirst (boxes c.home.publisher c.home.subscriber) number_taken box
-        × (with_all_mailboxes (state_of (kept_of f)) (mailboxes_of (numbers_of f.books) new) ≡ with_all_mailboxes (state_of (kept_of f)) (with_box boxes c.home.publisher c.home.subscriber box))) (boxes-are f)
+        × (with_all_mailboxes (state_of (kept_of f)) (mailboxes_of (number_in_slot f.books) new) ≡ with_all_mailboxes (state_of (kept_of f)) (with_box boxes c.home.publisher c.home.subscriber box))) (boxes-are f)
         (t.0, t.1, ap (with_all_mailboxes (state_of (kept_of f))) t.2))
 
     -- the message is received
-    pub takes-message : TakeSample (state_of (kept_of f)) y.id receiver (with_all_mailboxes (state_of (kept_of f)) (mailboxes_of (numbers_of f.books) new)) (Got_sample c.home.publisher number_taken)
+    pub takes-message : TakeSample (state_of (kept_of f)) y.id receiver (with_all_mailboxes (state_of (kept_of f)) (mailboxes_of (number_in_slot f.books) new)) (Got_sample c.home.publisher number_taken)
     takes-message = (found-ready.1, borrows.0, borrows.1, borrows.2)
 
     -- the fields with what was taken
     pub takes-reaches : (same : SameHomes f.connections new) → KeepsOtherKeys key f.connections new → KeepsReturned key f.connections new → SameStands f.connections new
-        → Reaches f (with_connections f new same) (with_all_mailboxes (state_of (kept_of f)) (mailboxes_of (numbers_of f.books) new))
+        → Reaches f (with_connections f new same) (with_all_mailboxes (state_of (kept_of f)) (mailboxes_of (number_in_slot f.books) new))
     takes-reaches same others keeps stay =
         reconnected-reaches f sound key c at_c new same others stay
         (returned-still f key c at_c new same keeps (sound.parts.linked.returned key c at_c))

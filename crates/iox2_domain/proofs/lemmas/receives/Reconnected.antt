@@ -14,7 +14,7 @@ use Rattle.iox2_connections.specs.Mailboxes.{mailboxes_of}
 use Rattle.iox2_connections.specs.Takes.{KeepsOtherKeys, KeepsReturned, SameStands}
 use Rattle.iox2_connections.proofs.MailboxChanges.{was, IsApart-same}
 use Rattle.iox2_domain.specs.Kept.{state_of}
-use Rattle.iox2_domain.specs.Fields.{Fields, kept_of, numbers_of}
+use Rattle.iox2_domain.specs.Fields.{Fields, kept_of, number_in_slot}
 use Rattle.iox2_domain.specs.Invariant.{IsDomain, IsCounted, SenderHas, own_holders, HasParts}
 use Rattle.iox2_domain.specs.Reaches.{Reaches}
 use Rattle.iox2_domain.specs.Shows.{KeepsEntries}
@@ -80,16 +80,16 @@ module _ {T U : Type 0} (f : Fields T U) (sound : IsDomain f) (key : ℕ) (c : L
       ]
 
   -- whoever holds a message has its entry
-  pub reconnected-complete : ((p q n : ℕ) → contains (numbers_in (mailboxes_of (numbers_of f.books) new p q)) n ≡ true → contains (numbers_in ((state_of (kept_of f)).mailboxes p q)) n ≡ true)
+  pub reconnected-complete : ((p q n : ℕ) → contains (numbers_in (mailboxes_of (number_in_slot f.books) new p q)) n ≡ true → contains (numbers_in ((state_of (kept_of f)).mailboxes p q)) n ≡ true)
       → KeepsEntries (kept_of (with_connections f new same))
   reconnected-complete before p n held =
-      sound.entries p n (held-within (state_of (kept_of f)) (mailboxes_of (numbers_of f.books) new) p n (λ q. before p q n)
+      sound.entries p n (held-within (state_of (kept_of f)) (mailboxes_of (number_in_slot f.books) new) p n (λ q. before p q n)
       (subst (λ s. IsHeldMessage s p n) (connections-are f new same) held))
 
   -- and what they keep is well-formed where the machine's state is
-  pub reconnected-reaches : IsWellFormed (with_all_mailboxes (state_of (kept_of f)) (mailboxes_of (numbers_of f.books) new))
-      → ((p q n : ℕ) → contains (numbers_in (mailboxes_of (numbers_of f.books) new p q)) n ≡ true → contains (numbers_in ((state_of (kept_of f)).mailboxes p q)) n ≡ true)
-      → Reaches f (with_connections f new same) (with_all_mailboxes (state_of (kept_of f)) (mailboxes_of (numbers_of f.books) new))
+  pub reconnected-reaches : IsWellFormed (with_all_mailboxes (state_of (kept_of f)) (mailboxes_of (number_in_slot f.books) new))
+      → ((p q n : ℕ) → contains (numbers_in (mailboxes_of (number_in_slot f.books) new p q)) n ≡ true → contains (numbers_in ((state_of (kept_of f)).mailboxes p q)) n ≡ true)
+      → Reaches f (with_connections f new same) (with_all_mailboxes (state_of (kept_of f)) (mailboxes_of (number_in_slot f.books) new))
   reconnected-reaches well before = record {
     agrees = whole_of (with_connections f new same) reconnected-consistent sound.lone
         sound.kept_books (subst IsWellFormed (sym (connections-are f new same)) well) (reconnected-complete before);

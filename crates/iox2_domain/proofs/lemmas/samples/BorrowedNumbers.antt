@@ -12,7 +12,7 @@ use Rattle.iox2_connections.proofs.Counts.{in_range}
 use Rattle.iox2_connections.proofs.LookUps.{look_up-there}
 use Rattle.iox2_connections.proofs.MailboxChanges.{both-true, mailbox-there, within_if_some}
 use Rattle.iox2_domain.specs.Kept.{state_of}
-use Rattle.iox2_domain.specs.Fields.{Fields, kept_of, numbers_of}
+use Rattle.iox2_domain.specs.Fields.{Fields, kept_of, number_in_slot}
 use Rattle.iox2_domain.specs.Invariant.{IsDomain}
 use Rattle.iox2_domain.specs.SampleSlots.{HasNoneNumbered, IsNumberedSlot, LiesBorrowed, BorrowsAt}
 use Rattle.iox2_domain.specs.declared.sample_slots.SampleSlot.{SampleSlot}
@@ -36,10 +36,10 @@ module _ {T U : Type 0} (f : Fields T U) (sound : IsDomain f) (key book : ℕ) (
     -- no borrowed slot has the number
     pub none-borrows : HasNoneNumbered c b n → BorrowsAt f key q n → ⊥
     none-borrows none borrows = true≢false (sym borrows.is_borrowed ∙ absent) where
-      absent : contains (map (numbers_of f.books (borrows.connection).home.publisher) (borrows.connection).borrowed) n ≡ false
+      absent : contains (map (number_in_slot f.books (borrows.connection).home.publisher) (borrows.connection).borrowed) n ≡ false
       absent =
-          subst (λ (d : Link). contains (map (numbers_of f.books d.home.publisher) d.borrowed) n ≡ false) (same-link borrows)
-          (contains-none (numbers_of f.books c.home.publisher) c.borrowed n (λ slot borrowed e.
+          subst (λ (d : Link). contains (map (number_in_slot f.books d.home.publisher) d.borrowed) n ≡ false) (same-link borrows)
+          (contains-none (number_in_slot f.books c.home.publisher) c.borrowed n (λ slot borrowed e.
           none slot borrowed (sym (book-numbers f sound key book c b has.stands has.has_book has.book_is slot) ∙ e)))
 
     -- a slot with it is where it lies
@@ -59,13 +59,13 @@ module _ {T U : Type 0} (f : Fields T U) (sound : IsDomain f) (q n : ℕ) where
   in-its-mailbox : (key : ℕ) (borrows : BorrowsAt f key q n) → is_borrowed n ((state_of (kept_of f)).mailboxes (borrows.connection).home.publisher q) ≡ true
   in-its-mailbox key borrows =
       ap (is_borrowed n) (mailboxes-are f (borrows.connection).home.publisher q
-      ∙ mailbox-there (numbers_of f.books) f.connections key (borrows.connection).home.publisher q borrows.connection sound.parts.apart borrows.stands refl borrows.subscriber_is)
+      ∙ mailbox-there (number_in_slot f.books) f.connections key (borrows.connection).home.publisher q borrows.connection sound.parts.apart borrows.stands refl borrows.subscriber_is)
       ∙ borrows.is_borrowed
 
   -- a sample that is live is borrowed in some connection
   pub live-borrows : HoldsSample (state_of (kept_of f)) q n → (key : ℕ) × (key < length f.connections.slots) × BorrowsAt f key q n
   live-borrows live = by (look_up (is_between live.0 q) f.connections.slots) refl (sym (ap (is_borrowed n) (mailboxes-are f live.0 q)) ∙ live.1) where
-    by : (o : Option Link) → look_up (is_between live.0 q) f.connections.slots ≡ o → is_borrowed n (mailbox_if_any (numbers_of f.books live.0) o) ≡ true
+    by : (o : Option Link) → look_up (is_between live.0 q) f.connections.slots ≡ o → is_borrowed n (mailbox_if_any (number_in_slot f.books live.0) o) ≡ true
         → (key : ℕ) × (key < length f.connections.slots) × BorrowsAt f key q n
     by None e is = absurd (true≢false (sym is))
     by (Some c) e is =
@@ -78,7 +78,7 @@ module _ {T U : Type 0} (f : Fields T U) (sound : IsDomain f) (q n : ℕ) where
             connection = c;
             stands = there.1;
             subscriber_is = eqb-true c.home.subscriber q parts.1;
-            is_borrowed = subst (λ (p : ℕ). contains (map (numbers_of f.books p) c.borrowed) n ≡ true) (sym its) is;
+            is_borrowed = subst (λ (p : ℕ). contains (map (number_in_slot f.books p) c.borrowed) n ≡ true) (sym its) is;
           },
         )
 
@@ -89,9 +89,9 @@ module _ {T U : Type 0} (f : Fields T U) (sound : IsDomain f) (q n : ℕ) where
     stands = lies.has_connection;
     subscriber_is = lies.subscriber_is;
     is_borrowed =
-        subst (λ (m : ℕ). contains (map (numbers_of f.books (lies.connection).home.publisher) (lies.connection).borrowed) m ≡ true)
+        subst (λ (m : ℕ). contains (map (number_in_slot f.books (lies.connection).home.publisher) (lies.connection).borrowed) m ≡ true)
         (book-numbers f sound at.connection at.book lies.connection lies.book lies.has_connection lies.has_book lies.book_is at.slot ∙ (lies.slot_is).number_is)
-        (contains-one (numbers_of f.books (lies.connection).home.publisher) (lies.connection).borrowed at.slot (lies.slot_is).borrowed);
+        (contains-one (number_in_slot f.books (lies.connection).home.publisher) (lies.connection).borrowed at.slot (lies.slot_is).borrowed);
   })
 
   -- and so it is live

@@ -8,7 +8,7 @@ use Rattle.iox2_slots.specs.SlotBook.{Book}
 use Rattle.iox2_machine.specs.machine.Numbers.{contains}
 use Rattle.iox2_machine.specs.machine.SingleCalls.{HoldsSample}
 use Rattle.iox2_domain.specs.Kept.{state_of}
-use Rattle.iox2_domain.specs.Fields.{Fields, kept_of, numbers_of}
+use Rattle.iox2_domain.specs.Fields.{Fields, kept_of, number_in_slot}
 use Rattle.iox2_domain.specs.Invariant.{HasNumber, IsDomain}
 use Rattle.iox2_domain.specs.SampleSlots.{LiesBorrowed, LiesBorrowedInSlot}
 use Rattle.iox2_domain.specs.declared.sample_slots.SampleSlot.{SampleSlot}
@@ -29,7 +29,7 @@ module _ {T U : Type 0} (f : Fields T U) (sound : IsDomain f) (q n : ℕ) (live 
       let borrows = there.2 in
       let key : ℕ = (borrows.connection).home.book in
       let has = sound.parts.names.at there.0 borrows.connection borrows.stands in
-      let slot = contains-map_there (numbers_of f.books (borrows.connection).home.publisher) (borrows.connection).borrowed n borrows.is_borrowed in (
+      let slot = contains-map_there (number_in_slot f.books (borrows.connection).home.publisher) (borrows.connection).borrowed n borrows.is_borrowed in (
         record { connection = there.0; book = key; slot = slot.0 },
         record {
           connection = borrows.connection;

@@ -15,7 +15,7 @@ use Rattle.iox2_connections.proofs.LookUps.{look_up-changed, look_up-found}
 use Rattle.iox2_connections.proofs.MailboxChanges.{within_if_some}
 use Rattle.iox2_domain.specs.Ports.{PublisherFields}
 use Rattle.iox2_domain.specs.Kept.{state_of, port_named, ids, stands_between, mailbox_if_between, channels_if_between}
-use Rattle.iox2_domain.specs.Fields.{Fields, kept_of, publisher_of, between_of, is_book_of, numbers_of, blocked_send}
+use Rattle.iox2_domain.specs.Fields.{Fields, kept_of, publisher_of, between_of, is_book_of, number_in_slot, blocked_send}
 use Rattle.iox2_domain.specs.Invariant.{IsLinked, HasBook, HasBooks, holders_of}
 use Rattle.iox2_domain.proofs.lemmas.fields.SameLinks.{linked-same}
 use mathlib.Core.Path.{fun_ext}
@@ -95,12 +95,12 @@ module _ {T U : Type 0} (f : Fields T U) (key : ℕ) (b d : Book) (at : get f.bo
         (look_up-found (is_book_of p) changed.slots key d (books-apart p) book-here (let e : eqb d.publisher p ≡ true = rw mine (grind arith) in e))
 
     -- each slot has its number
-    pub numbers-same : numbers_of changed ≡ numbers_of f.books
+    pub numbers-same : number_in_slot changed ≡ number_in_slot f.books
     numbers-same = fun_ext (λ p. fun_ext (λ slot. ap (number slot) (look_up-book p) ∙ by p slot (eqb d.publisher p) refl)) where
       number : (slot : ℕ) → Option Book → ℕ
       number slot o = option_map_or (λ (e : Book). slice_index e.numbers slot) o 0
 
-      by : (p slot : ℕ) (t : Bool) → eqb d.publisher p ≡ t → number slot (cond t (Some d) (look_up (is_book_of p) f.books.slots)) ≡ numbers_of f.books p slot
+      by : (p slot : ℕ) (t : Bool) → eqb d.publisher p ≡ t → number slot (cond t (Some d) (look_up (is_book_of p) f.books.slots)) ≡ number_in_slot f.books p slot
       by p slot true e = ap (λ ns. slice_index ns slot) keeps.numbers ∙ sym (ap (number slot) (look_up-old p e))
       by p slot false e = refl
 

@@ -19,7 +19,7 @@ use Rattle.iox2_connections.proofs.LookUps.{look_up-found, look_up-nothing}
 use Rattle.iox2_connections.proofs.MailboxChanges.{within_if_some}
 use Rattle.iox2_domain.specs.Ports.{PublisherFields}
 use Rattle.iox2_domain.specs.Kept.{state_of, loan_in, message_numbered, port_named, ids, stands_between, mailbox_if_between, channels_if_between}
-use Rattle.iox2_domain.specs.Fields.{Fields, kept_of, kept_book, map_from, is_book_of, numbers_of, message_in, messages_in, contents_at, publisher_of, between_of, blocked_send}
+use Rattle.iox2_domain.specs.Fields.{Fields, kept_of, kept_book, map_from, is_book_of, number_in_slot, message_in, messages_in, contents_at, publisher_of, between_of, blocked_send}
 use Rattle.iox2_domain.specs.Invariant.{HasLoneLoans, HasNumber, HasBook, HasBooks, IsBook, NamesBooks, IsNumbered, IsCounted, HasShapes, HasForms, IsOwned, IsLeft, KeepsBooks, holders_of, own_holders, is_publisher, is_loan_in, cell_count, mark_at, HasParts}
 use Rattle.iox2_domain.specs.LeftBooks.{with_book_gone}
 use Rattle.iox2_domain.proofs.lemmas.containers.LookUps.{look_up-removed, IsOnly-removed}
@@ -85,7 +85,7 @@ module _ {T U : Type 0} (f : Fields T U) (parts : HasParts f) (key : ℕ) (b : B
   no-book = book-found b.publisher ∙ ap (λ t. cond t None (look_up (is_book_of b.publisher) f.books.slots)) (eq-eqb b.publisher b.publisher refl)
 
   -- the slots of the other publishers keep their numbers
-  numbers-same : (p : ℕ) → p ≢ b.publisher → numbers_of after.books p ≡ numbers_of f.books p
+  numbers-same : (p : ℕ) → p ≢ b.publisher → number_in_slot after.books p ≡ number_in_slot f.books p
   numbers-same p away = ap {B = ℕ → ℕ} (λ (o : Option Book) (slot : ℕ). option_map_or (λ (c : Book). get_or c.numbers slot 0) o 0) (other-book p away)
 
   -- ---- what lies in slots

@@ -11,7 +11,7 @@ use Rattle.iox2_connections.specs.Counters.{times, IsCovered}
 use Rattle.iox2_connections.specs.LookUp.{look_up}
 use Rattle.iox2_connections.proofs.Counts.{one_if, one_if_same, times-cons, counter_if_stands}
 use Rattle.iox2_connections.proofs.ListedNumbers.{contains-from}
-use Rattle.iox2_domain.specs.Fields.{Fields, is_book_of, numbers_of}
+use Rattle.iox2_domain.specs.Fields.{Fields, is_book_of, number_in_slot}
 use Rattle.iox2_domain.specs.Invariant.{IsDomain}
 use Rattle.iox2_domain.proofs.lemmas.slots.Holders.{book-by_id, book-holders}
 
@@ -31,7 +31,7 @@ module _ {T U : Type 0} (f : Fields T U) (sound : IsDomain f) (key book : ℕ) (
   found-book = book-by_id f.books book c.home.publisher b (sound.parts.books.one_each c.home.publisher) at_b its
 
   -- the book has the numbers of the connection's slots
-  pub book-numbers : (slot : ℕ) → numbers_of f.books c.home.publisher slot ≡ slice_index b.numbers slot
+  pub book-numbers : (slot : ℕ) → number_in_slot f.books c.home.publisher slot ≡ slice_index b.numbers slot
   book-numbers slot = ap (λ o. option_map_or (λ (d : Book). slice_index d.numbers slot) o 0) found-book
 
   book-covers : IsCovered c.home.publisher b.holders f.connections.slots

@@ -13,7 +13,7 @@ use Rattle.iox2_contents.specs.SlotContents.{ContentState}
 use Rattle.iox2_connections.specs.LookUp.{look_up, IsOnly}
 use Rattle.iox2_connections.proofs.LookUps.{look_up-found}
 use Rattle.iox2_domain.specs.Kept.{state_of, entries_of, entry_in, loan_in, message_numbered}
-use Rattle.iox2_domain.specs.Fields.{Fields, kept_of, is_book_of, numbers_of, message_in, message_of}
+use Rattle.iox2_domain.specs.Fields.{Fields, kept_of, is_book_of, number_in_slot, message_in, message_of}
 use Rattle.iox2_domain.specs.Invariant.{IsDomain, HasNumber, IsNumbered, HasLoneLoans, holders_of, is_lent, is_loan_in}
 use Rattle.iox2_domain.proofs.lemmas.containers.SetRecords.{set-here, set-others, IsOnly-set, look_up-set}
 use Rattle.iox2_domain.proofs.lemmas.slots.LoneLoans.{lone-changed}
@@ -138,7 +138,7 @@ module _ {T U : Type 0} (f : Fields T U) (sound : IsDomain f) (key : ℕ) (b : B
     by false e = refl
     by true e = same ∙ sym (ap (λ o. option_map_or read o none) (look_up-found (is_book_of p) f.books.slots key b (sound.parts.books.one_each p) at e))
 
-  pub numbers-same : (p slot : ℕ) → numbers_of grown_books p slot ≡ numbers_of f.books p slot
+  pub numbers-same : (p slot : ℕ) → number_in_slot grown_books p slot ≡ number_in_slot f.books p slot
   numbers-same p slot = read-same (λ (c : Book). slice_index c.numbers slot) 0 (grown-numbers b more slot) p
 
   pub holders-same : (p slot : ℕ) → holders_of grown_books p slot ≡ holders_of f.books p slot

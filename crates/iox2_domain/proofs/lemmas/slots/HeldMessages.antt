@@ -24,7 +24,7 @@ use Rattle.iox2_laws.proofs.NumberLemmas.{contains_in_cons}
 use Rattle.iox2_domain.specs.Ports.{PublisherFields}
 use Rattle.iox2_domain.specs.declared.publisher_state.BlockedDelivery.{BlockedDelivery}
 use Rattle.iox2_domain.specs.Kept.{state_of}
-use Rattle.iox2_domain.specs.Fields.{Fields, kept_of, publisher_of, is_book_of, numbers_of, blocked_send}
+use Rattle.iox2_domain.specs.Fields.{Fields, kept_of, publisher_of, is_book_of, number_in_slot, blocked_send}
 use Rattle.iox2_domain.specs.Invariant.{IsCounted, HasNumber, is_publisher, holders_of, IsPlain}
 use Rattle.iox2_domain.proofs.lemmas.fields.Views.{mailboxes-are}
 use Rattle.iox2_domain.proofs.lemmas.slots.BoxNumbers.{slot-of_number}
@@ -42,10 +42,10 @@ slot_numbered number n (slot ∷ slots) h = elim (contains_in_cons (number slot)
 module _ {T U : Type 0} (f : Fields T U) where
   -- a slot in use lies in its publisher's book
   pub holders-there : (p slot : ℕ) → 0 < holders_of f.books p slot
-      → (key : ℕ) × (b : Book) × (get f.books key ≡ Some b) × (b.publisher ≡ p) × (0 < holders_at b slot) × (slice_index b.numbers slot ≡ numbers_of f.books p slot)
+      → (key : ℕ) × (b : Book) × (get f.books key ≡ Some b) × (b.publisher ≡ p) × (0 < holders_at b slot) × (slice_index b.numbers slot ≡ number_in_slot f.books p slot)
   holders-there p slot in_use = by (look_up (is_book_of p) f.books.slots) refl in_use where
     by : (o : Option Book) → look_up (is_book_of p) f.books.slots ≡ o → 0 < option_map_or (λ (b : Book). holders_at b slot) o 0
-        → (key : ℕ) × (b : Book) × (get f.books key ≡ Some b) × (b.publisher ≡ p) × (0 < holders_at b slot) × (slice_index b.numbers slot ≡ numbers_of f.books p slot)
+        → (key : ℕ) × (b : Book) × (get f.books key ≡ Some b) × (b.publisher ≡ p) × (0 < holders_at b slot) × (slice_index b.numbers slot ≡ number_in_slot f.books p slot)
     by None e h = absurd (omega arith)
     by (Some b) e h =
         let there = look_up-there (is_book_of p) f.books.slots b e in
@@ -74,7 +74,7 @@ module _ {T U : Type 0} (f : Fields T U) where
     LiesWith p n = (key slot : ℕ) × (has : HasNumber f.books key slot n) × ((has.book).publisher ≡ p)
 
     -- a slot in use lies in its publisher's book, with its number
-    pub lies_with : (p slot n : ℕ) → 0 < holders_of f.books p slot → numbers_of f.books p slot ≡ n → LiesWith p n
+    pub lies_with : (p slot n : ℕ) → 0 < holders_of f.books p slot → number_in_slot f.books p slot ≡ n → LiesWith p n
     lies_with p slot n in_use is =
         let there = holders-there p slot in_use in
         (there.0, slot, record { book = there.1; stands = there.2; in_use = there.4; number = there.5 ∙ is }, there.3)
@@ -87,17 +87,17 @@ module _ {T U : Type 0} (f : Fields T U) where
     held-message-slot plain p n (In_history y at is) =
         let there = publisher-there p y at in
         let x = there.1 in
-        let slot = slot_numbered (numbers_of f.books x.id) n x.history.items (ap (λ (z : Publisher). contains z.history n) (sym there.4) ∙ is) in
+        let slot = slot_numbered (number_in_slot f.books x.id) n x.history.items (ap (λ (z : Publisher). contains z.history n) (sym there.4) ∙ is) in
         lies_with p slot.0 n
         (moved x.id p there.3 slot.0 (own-in_use there.0 slot.0 x there.2 (omega (arith, slot.1))))
-        (ap (λ (q : ℕ). numbers_of f.books q slot.0) (sym there.3) ∙ slot.2)
+        (ap (λ (q : ℕ). number_in_slot f.books q slot.0) (sym there.3) ∙ slot.2)
     held-message-slot plain p n (In_mailbox q is) = by (look_up (is_between p q) f.connections.slots) refl (ap (λ box. contains (numbers_in box) n) (sym (mailboxes-are f p q)) ∙ is) where
-      by : (o : Option Link) → look_up (is_between p q) f.connections.slots ≡ o → contains (numbers_in (mailbox_if_any (numbers_of f.books p) o)) n ≡ true → LiesWith p n
+      by : (o : Option Link) → look_up (is_between p q) f.connections.slots ≡ o → contains (numbers_in (mailbox_if_any (number_in_slot f.books p) o)) n ≡ true → LiesWith p n
       by None e h = absurd cc
       by (Some c) e h =
           let there = look_up-there (is_between p q) f.connections.slots c e in
           let mine : c.home.publisher ≡ p = eqb-true c.home.publisher p (both-true (eqb c.home.publisher p) (eqb c.home.subscriber q) there.2).0 in
-          let slot = slot-of_number (numbers_of f.books p) c n h in
+          let slot = slot-of_number (number_in_slot f.books p) c n h in
           lies_with p slot.0 n (moved c.home.publisher p mine slot.0 (standing-in_use there.0 slot.0 c there.1 slot.1)) slot.2
     held-message-slot plain p n (In_blocked_send y b at blocked is) =
         let there = publisher-there p y at in
@@ -106,12 +106,12 @@ module _ {T U : Type 0} (f : Fields T U) where
         let slot : ℕ = (waits.0).slot in
         lies_with p slot n
         (moved x.id p there.3 slot (own-in_use there.0 slot x there.2 (omega (arith, (plain there.0 x there.2).lent waits.0 waits.1))))
-        (ap (λ (q : ℕ). numbers_of f.books q slot) (sym there.3) ∙ ap (λ (c : BlockedSend). c.message) waits.2 ∙ is)
+        (ap (λ (q : ℕ). number_in_slot f.books q slot) (sym there.3) ∙ ap (λ (c : BlockedSend). c.message) waits.2 ∙ is)
       where
         blocked-there : (x : PublisherFields) → ((publisher_of f.books f.connections x).port).blocked ≡ Some b
-            → (d : BlockedDelivery) × (x.blocked ≡ Some d) × (blocked_send (numbers_of f.books x.id) (sender_ends f.connections x.keys) d ≡ b)
+            → (d : BlockedDelivery) × (x.blocked ≡ Some d) × (blocked_send (number_in_slot f.books x.id) (sender_ends f.connections x.keys) d ≡ b)
         blocked-there x e = by x.blocked refl e where
-          by : (o : Option BlockedDelivery) → x.blocked ≡ o → option_map (blocked_send (numbers_of f.books x.id) (sender_ends f.connections x.keys)) o ≡ Some b
-              → (d : BlockedDelivery) × (x.blocked ≡ Some d) × (blocked_send (numbers_of f.books x.id) (sender_ends f.connections x.keys) d ≡ b)
+          by : (o : Option BlockedDelivery) → x.blocked ≡ o → option_map (blocked_send (number_in_slot f.books x.id) (sender_ends f.connections x.keys)) o ≡ Some b
+              → (d : BlockedDelivery) × (x.blocked ≡ Some d) × (blocked_send (number_in_slot f.books x.id) (sender_ends f.connections x.keys) d ≡ b)
           by None e h = absurd cc
           by (Some d) e h = (d, e, cc)

@@ -14,7 +14,7 @@ use Rattle.iox2_connections.proofs.LookUps.{look_up-nothing}
 use Rattle.iox2_connections.specs.Mailboxes.{sender_ends, mailbox_of}
 use Rattle.iox2_domain.specs.Ports.{PublisherFields}
 use Rattle.iox2_domain.specs.Kept.{message_numbered}
-use Rattle.iox2_domain.specs.Fields.{Fields, kept_book, map_from, is_book_of, numbers_of, message_in, messages_in, contents_at, publisher_of, between_of, blocked_send}
+use Rattle.iox2_domain.specs.Fields.{Fields, kept_book, map_from, is_book_of, number_in_slot, message_in, messages_in, contents_at, publisher_of, between_of, blocked_send}
 use Rattle.iox2_domain.specs.Invariant.{IsDomain, HasNumber, IsNumbered, HasLoneLoans}
 use Rattle.iox2_domain.proofs.lemmas.containers.LookUps.{look_up-written, IsOnly-inserted}
 use Rattle.iox2_domain.proofs.lemmas.fields.ConnectionEnds.{publisher-stands}
@@ -90,7 +90,7 @@ module _ {T U : Type 0} (f : Fields T U) (sound : IsDomain f) (slots room key : 
       ∙ ap (λ (q : ℕ). cond (eqb q p) (Some enters.book) (look_up (is_book_of p) f.books.slots)) enters.is_its
 
   -- the slots of the other publishers keep their numbers
-  pub numbers-same : (p : ℕ) → p < f.next_port → numbers_of books p ≡ numbers_of f.books p
+  pub numbers-same : (p : ℕ) → p < f.next_port → number_in_slot books p ≡ number_in_slot f.books p
   numbers-same p low =
       let other : look_up (is_book_of p) books.slots ≡ look_up (is_book_of p) f.books.slots =
       book-found p ∙ ap (λ b. cond b (Some enters.book) (look_up (is_book_of p) f.books.slots)) (ne_eqb f.next_port p (λ same. omega arith)) in

@@ -8,7 +8,7 @@ use Rattle.std.specs.declared.option.Option.{Option}
 use Rattle.std.specs.declared.option.Option.TheVariants.{None, Some}
 use Rattle.slab.specs.Slab.{get}
 use Rattle.iox2_slots.specs.SlotBook.{Book, holders_at}
-use Rattle.iox2_contents.specs.SlotContents.{ContentState, is_open, open_count}
+use Rattle.iox2_contents.specs.SlotContents.{ContentState, has_cells_to_hand_out, open_count}
 use Rattle.iox2_connections.specs.Counters.{times}
 use Rattle.iox2_connections.proofs.Counts.{times-cons, one_if}
 use Rattle.iox2_connections.proofs.MailboxChanges.{both-true}
@@ -72,4 +72,4 @@ module _ {T U : Type 0} (f : Fields T U) (parts : HasParts f) (i : ℕ) (x : Pub
 
   -- so no more slots have cells than the publisher has loans out
   pub open-few : open_count cs ≤ length x.loans
-  open-few = passing-listed is_open cs x.loans (λ slot content at opens. open-lent slot content at (ltb-true 0 (length content.cells) (both-true (nat_lt 0 content.lists) (nat_lt 0 (length content.cells)) opens).1))
+  open-few = passing-listed has_cells_to_hand_out cs x.loans (λ slot content at opens. open-lent slot content at (ltb-true 0 (length content.cells) (both-true (nat_lt 0 content.lists) (nat_lt 0 (length content.cells)) opens).1))

@@ -11,7 +11,7 @@ use Rattle.iox2_connections.specs.Counters.{with_counters}
 use Rattle.iox2_connections.specs.Reclaims.{Reclaims}
 use Rattle.iox2_domain.specs.Ports.{PublisherFields}
 use Rattle.iox2_domain.specs.Kept.{state_of}
-use Rattle.iox2_domain.specs.Fields.{Fields, kept_of, numbers_of}
+use Rattle.iox2_domain.specs.Fields.{Fields, kept_of, number_in_slot}
 use Rattle.iox2_domain.specs.Invariant.{IsDomain, IsOwned}
 use Rattle.iox2_domain.specs.Reaches.{Reaches}
 use Rattle.iox2_domain.proofs.lemmas.fields.Parts.{whole_of}
@@ -32,7 +32,7 @@ module _ {T U : Type 0} (f : Fields T U) (sound : IsDomain f) (p key : ℕ) (b :
   reclaimed-is =
       recounted-is f sound p key b at mine holders new r.recounts
       ∙ ap (λ (boxes : ℕ → ℕ → Mailbox). record (state_of (kept_of f)) { mailboxes = boxes })
-      (r.mailboxes (numbers_of f.books) ∙ sym (fun_ext (λ q. fun_ext (λ s. mailboxes-are f q s))))
+      (r.mailboxes (number_in_slot f.books) ∙ sym (fun_ext (λ q. fun_ext (λ s. mailboxes-are f q s))))
 
   -- and what always holds is kept
   pub reclaimed-reaches : Reaches f with_reclaimed (state_of (kept_of f))

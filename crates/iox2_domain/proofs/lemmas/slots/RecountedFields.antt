@@ -11,7 +11,7 @@ use Rattle.iox2_connections.specs.Counters.{with_counters}
 use Rattle.iox2_connections.specs.Mailboxes.{mailboxes_of}
 use Rattle.iox2_connections.specs.Recounts.{Recounts}
 use Rattle.iox2_domain.specs.Kept.{KeptMessage, Lent_message, state_of}
-use Rattle.iox2_domain.specs.Fields.{Fields, kept_of, numbers_of}
+use Rattle.iox2_domain.specs.Fields.{Fields, kept_of, number_in_slot}
 use Rattle.iox2_domain.specs.Invariant.{HasNumber, HasParts}
 use Rattle.iox2_domain.proofs.lemmas.slots.Messages.{lies_at, loan-there, loan-found, alike-if-found}
 use Rattle.iox2_domain.proofs.lemmas.slots.BookChanges.{KeepsSlots, numbers-same, book-state}
@@ -28,7 +28,7 @@ module _ {T U : Type 0} (f : Fields T U) (parts : HasParts f) (p key : ℕ) (b :
   keeps = record { publisher = refl; node = refl; numbers = refl; slots = r.slots }
 
   -- each slot has its number
-  pub same-numbers : numbers_of recounted_fields.books ≡ numbers_of f.books
+  pub same-numbers : number_in_slot recounted_fields.books ≡ number_in_slot f.books
   same-numbers = numbers-same (with_connections f new r.homes) key b (with_counters b holders) at keeps parts.books.one_each
 
   pub was-number : (k slot n : ℕ) → HasNumber recounted_fields.books k slot n → HasNumber f.books k slot n
@@ -73,8 +73,8 @@ module _ {T U : Type 0} (f : Fields T U) (parts : HasParts f) (p key : ℕ) (b :
     -- ---- the state
 
     -- the machine sees the mailboxes alone
-    pub recounted-is : state_of (kept_of recounted_fields) ≡ record (state_of (kept_of f)) { mailboxes = mailboxes_of (numbers_of f.books) new }
+    pub recounted-is : state_of (kept_of recounted_fields) ≡ record (state_of (kept_of f)) { mailboxes = mailboxes_of (number_in_slot f.books) new }
     recounted-is =
         book-state (with_connections f new r.homes) key b (with_counters b holders) at keeps parts.books.one_each
         ∙ ap (λ (s : State T U). record s { loans = (state_of (kept_of recounted_fields)).loans }) (connections-are f new r.homes)
-        ∙ ap (λ (loans : ℕ → Option (Loan T U)). record (state_of (kept_of f)) { mailboxes = mailboxes_of (numbers_of f.books) new; loans = loans }) loans-same
+        ∙ ap (λ (loans : ℕ → Option (Loan T U)). record (state_of (kept_of f)) { mailboxes = mailboxes_of (number_in_slot f.books) new; loans = loans }) loans-same

@@ -24,7 +24,7 @@ use Rattle.iox2_connections.proofs.LookUps.{look_up-found, look_up-there}
 use Rattle.iox2_connections.proofs.MailboxChanges.{both-true}
 use Rattle.iox2_domain.specs.Ports.{PublisherFields}
 use Rattle.iox2_domain.specs.Kept.{KeptMessage, Lent_message, Sent_message, state_of, entries_of}
-use Rattle.iox2_domain.specs.Fields.{Fields, kept_of, numbers_of, message_of, contents_at, is_book_of}
+use Rattle.iox2_domain.specs.Fields.{Fields, kept_of, number_in_slot, message_of, contents_at, is_book_of}
 use Rattle.iox2_domain.specs.Invariant.{IsDomain, IsOwned, KeepsBooks, HasLoneLoans, HasNumber, is_publisher, is_lent, is_loan_in, holders_of, own_holders, HasParts}
 use Rattle.iox2_domain.specs.KeptPlaces.{KeepsPlaces}
 use Rattle.iox2_domain.proofs.lemmas.fields.ConnectionEnds.{publisher-stands}
@@ -169,7 +169,7 @@ module _ {T U : Type 0} (f : Fields T U) (sound : IsDomain f) (p key : ℕ) (b :
   standing-in_use k slot n l i x at_x its found e =
       let out : contains _ n ≡ true = ((sound.well_formed.loans n l found).is_out _
       (ap (state_of (kept_of f)).publishers (sym its) ∙ publisher-stands f sound.parts i x at_x)).0 in
-      let own = slot_numbered (numbers_of f.books x.id) n x.loans out in
+      let own = slot_numbered (number_in_slot f.books x.id) n x.loans out in
       let has = lies_with recounted_fields parts-recounted.counted parts-recounted.publisher_ids x.id own.0 n
       (own-in_use recounted_fields parts-recounted.counted parts-recounted.publisher_ids i own.0 x at_x (omega (arith, own.1)))
       (ap (λ (numbers : ℕ → ℕ → ℕ). numbers x.id own.0) (fields.same-numbers f parts p key b at mine holders new r) ∙ own.2) in
@@ -190,7 +190,7 @@ module _ {T U : Type 0} (f : Fields T U) (sound : IsDomain f) (p key : ℕ) (b :
         ap (λ (q : ℕ). look_up (is_publisher q) f.publishers) (sym (its ∙ ap (λ (c : Book). c.publisher) is ∙ mine)) ∙ gone)
 
   -- the machine sees the mailboxes alone
-  pub recounted-is : state_of (kept_of recounted_fields) ≡ record (state_of (kept_of f)) { mailboxes = mailboxes_of (numbers_of f.books) new }
+  pub recounted-is : state_of (kept_of recounted_fields) ≡ record (state_of (kept_of f)) { mailboxes = mailboxes_of (number_in_slot f.books) new }
   recounted-is = fields.recounted-is f parts p key b at mine holders new r own loans-stay
 
   -- a slot in use was so before, with its number

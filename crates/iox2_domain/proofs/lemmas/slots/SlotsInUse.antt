@@ -26,7 +26,7 @@ use Rattle.iox2_laws.proofs.PlaceLemmas.{contains-occupants}
 use Rattle.iox2_laws.proofs.Sizes.{size_is, size_le}
 use Rattle.iox2_domain.specs.Ports.{PublisherFields}
 use Rattle.iox2_domain.specs.Kept.{state_of}
-use Rattle.iox2_domain.specs.Fields.{Fields, kept_of, publisher_of, is_book_of, numbers_of}
+use Rattle.iox2_domain.specs.Fields.{Fields, kept_of, publisher_of, is_book_of, number_in_slot}
 use Rattle.iox2_domain.specs.Invariant.{IsDomain, HasBook, is_publisher, holders_of}
 use Rattle.iox2_domain.proofs.lemmas.fields.ConnectionEnds.{publisher-stands}
 use Rattle.iox2_domain.proofs.lemmas.fields.Views.{mailboxes-are}
@@ -47,7 +47,7 @@ module _ {T U : Type 0} (f : Fields T U) (sound : IsDomain f) where
     found = book-by_id f.books x.book x.id its_book.book (sound.parts.books.one_each x.id) its_book.stands its_book.is_its
 
     -- the number of a slot is the one in the book
-    pub numbers-are : (slot : ℕ) → numbers_of f.books x.id slot ≡ slice_index (its_book.book).numbers slot
+    pub numbers-are : (slot : ℕ) → number_in_slot f.books x.id slot ≡ slice_index (its_book.book).numbers slot
     numbers-are slot = ap (λ o. option_map_or (λ (b : Book). slice_index b.numbers slot) o 0) found
 
     -- the holders of a slot are those in the book
@@ -75,7 +75,7 @@ module _ {T U : Type 0} (f : Fields T U) (sound : IsDomain f) where
 
     -- the number of each slot
     abbrev number : ℕ → ℕ
-    number slot = numbers_of f.books x.id slot
+    number slot = number_in_slot f.books x.id slot
 
     -- it has a slot with that number and a holder
     abbrev HasSlot : ℕ → Type 0

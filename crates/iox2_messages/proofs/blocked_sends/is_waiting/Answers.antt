@@ -5,7 +5,7 @@ use Rattle.std.specs.Option.{option_map, option_map_or}
 use Rattle.iox2_machine.specs.machine.Records.{Publisher, BlockedSend}
 use Rattle.iox2_connections.specs.Mailboxes.{sender_ends}
 use Rattle.iox2_domain.specs.declared.publisher_state.BlockedDelivery.{BlockedDelivery}
-use Rattle.iox2_domain.specs.Fields.{kept_of, numbers_of, blocked_send}
+use Rattle.iox2_domain.specs.Fields.{kept_of, number_in_slot, blocked_send}
 use Rattle.iox2_domain.specs.Kept.{state_of}
 use Rattle.iox2_domain.proofs.lemmas.fields.ConnectionEnds.{publisher-stands}
 use Rattle.iox2_domain.proofs.lemmas.slots.LeftConnections.{unknown, stands-nowhere}
@@ -21,7 +21,7 @@ returns g c =
     let old = c.args.state.now in
     let found = c.in-Some.ensures in
     c.waits_at.ensures found.0 found.1
-    ∙ waits-alike (blocked_send (numbers_of old.books (found.0).id) (sender_ends old.connections (found.0).keys)) (found.0).blocked
+    ∙ waits-alike (blocked_send (number_in_slot old.books (found.0).id) (sender_ends old.connections (found.0).keys)) (found.0).blocked
     ∙ sym (ap (λ o. option_map_or (λ (x : Publisher). is_some x.blocked) o false) (ap (state_of (kept_of old)).publishers (sym found.2) ∙ publisher-stands old c.requires.parts c.in-Some.place found.0 found.1))
 
 pub returns-in_default : goal.returns-in_default

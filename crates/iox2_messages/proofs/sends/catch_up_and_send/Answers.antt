@@ -6,7 +6,7 @@ use Rattle.iox2_connections.specs.LookUp.{look_up}
 use Rattle.iox2_domain.specs.Fields.{Fields, kept_of}
 use Rattle.iox2_domain.specs.Invariant.{IsDomain, is_publisher}
 use Rattle.iox2_domain.specs.Kept.{state_of}
-use Rattle.iox2_domain.specs.SentLoans.{SendsLoan}
+use Rattle.iox2_domain.specs.SentLoans.{SendsKeptLoan}
 use Rattle.iox2_steps.proofs.discards.LeftLoan.{can-let-go, left-sent}
 use Rattle.iox2_domain.proofs.lemmas.slots.LeftConnections.{unknown, stands-nowhere}
 use Rattle.iox2_domain.specs.Boxes.{answers_of}
@@ -44,7 +44,7 @@ let_go-requires g c =
 
 pub returns-in-None-clause-sends : goal.returns-in-None-clause-sends
 returns-in-None-clause-sends g c =
-    subst (λ (f : Fields g.row.T.Denot g.row.U.Denot). SendsLoan (answers_of g.F.BackpressureFn.allows g.G.DegradationFn.allows c.args.boxes.now.boxes) f c.let_go.new.self c.args.number (Send_error ConnectionBrokenSinceSenderNoLongerExists)) (rw c.in-None.is at c.in-Ok.ensures).same
+    subst (λ (f : Fields g.row.T.Denot g.row.U.Denot). SendsKeptLoan (answers_of g.F.BackpressureFn.allows g.G.DegradationFn.allows c.args.boxes.now.boxes) f c.let_go.new.self c.args.number (Send_error ConnectionBrokenSinceSenderNoLongerExists)) (rw c.in-None.is at c.in-Ok.ensures).same
     (left-sent c.catch_up_and_find.new.state (subst (IsDomain {T = g.row.T.Denot} {U = g.row.U.Denot}) (sym (rw c.in-None.is at c.in-Ok.ensures).same) c.requires.agrees) c.args.publisher c.args.number
     c.search_loan-at.result.book c.search_loan-at.result.slot c.search_loan-at.ensures
     (ap (λ (f : Fields g.row.T.Denot g.row.U.Denot). look_up (is_publisher c.args.publisher) f.publishers) (rw c.in-None.is at c.in-Ok.ensures).same ∙ (rw c.in-None.is at c.in-Ok.ensures).is_gone)

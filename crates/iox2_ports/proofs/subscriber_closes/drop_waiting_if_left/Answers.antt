@@ -6,7 +6,7 @@ use Rattle.slab.specs.Slab.{ContainsKey, get}
 use Rattle.iox2_connections.specs.Link.{Link}
 use Rattle.iox2_domain.specs.Ports.{PublisherFields}
 use Rattle.iox2_domain.specs.Fields.{Fields}
-use Rattle.iox2_steps.specs.Closes.{IsLeftAt, IsStanding, HasNoPublisher, LosesWaiting}
+use Rattle.iox2_steps.specs.Closes.{IsLeftAt, IsStanding, HasNoPublisher, ConnectionLosesWaiting}
 use Rattle.iox2_steps.proofs.subscriber_closes.CloseReads.{home-read, left-there, left-after, left-loses, left-home, left-within, left-only, left-settles, left-settled, others-after}
 use Rattle.iox2_ports.proofs.subscriber_closes.drop_waiting_if_left.Goals.{After-drop_waiting, Then-is_left}
 use Rattle.iox2_ports.proofs.subscriber_closes.drop_waiting_if_left.Goals as goal
@@ -30,7 +30,7 @@ was_left g c =
     left-there c.args.state.now c.requires.parts c.args.place c.in-Some.key (c.requires.known c.in-Some.key c.in-Some.is) c.args.state.now refl (c.is_left.ensures.0 c.if-is_left.true)
 
 -- what waited there is lost
-abbrev lost : (g : _) (c : After-drop_waiting g) → LosesWaiting c.args.state.now c.in-Some.key (was_left g c).link c.drop_waiting.new.state
+abbrev lost : (g : _) (c : After-drop_waiting g) → ConnectionLosesWaiting c.args.state.now c.in-Some.key (was_left g c).link c.drop_waiting.new.state
 lost g c = c.drop_waiting.ensures (was_left g c).link (was_left g c).link_stands
 
 -- its publisher is still gone then

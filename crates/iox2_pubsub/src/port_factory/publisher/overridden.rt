@@ -6,12 +6,12 @@ ghost use Rattle.iox2_machine.specs.machine.Ports.{CreatePublisher};
 ghost use Rattle.iox2_machine.specs.machine.State.{State, Messages};
 ghost use Rattle.iox2_domain.specs.Boxes.{answers_of};
 ghost use Rattle.iox2_domain.specs.Shows.{Shows};
-ghost use Rattle.iox2_pubsub.specs.Factories.{AsksFor, AsksForAll, callback_of, with_slots};
+ghost use Rattle.iox2_pubsub.specs.Factories.{AsksForSlots, AsksForAll, callback_of, with_slots};
 ghost use Rattle.iox2_pubsub.specs.Handles.{publisher_id};
 ghost use Rattle.iox2_pubsub.specs.Leaves.{LeavesNoFewer};
 ghost use Rattle.iox2_pubsub.specs.Live.{WaitingStays};
 ghost use Rattle.iox2_pubsub.specs.LoansLeft.{HasLoansLeft, LendsFirst};
-ghost use Rattle.iox2_pubsub.specs.MadePublishers.{IsMade};
+ghost use Rattle.iox2_pubsub.specs.MadePublishers.{IsMadePublisher};
 
 use crate::domain::Domain;
 use crate::port_factory::handles::PortHandle;
@@ -42,12 +42,12 @@ impl<
         domain: &mut Domain<T, U, F, G>,
     ) -> Result<H, PublisherCreateError>
         requires can_ask { P.IsAlwaysCallable (callback_of self) }
-        ensures creates { (asked : Option ℕ) × AsksFor (P.post (callback_of self)) (worst_case (domain.old.config) self.settings.max_loaned_samples) asked
+        ensures creates { (asked : Option ℕ) × AsksForSlots (P.post (callback_of self)) (worst_case (domain.old.config) self.settings.max_loaned_samples) asked
             × ((m : Messages T U) (s : State T U) → Shows domain.old m s → (s' : State T U) × Shows domain.new m s'
             × MatchResult result
             (λ publisher. (publisher_id (H.as_port publisher) ≡ s.next_port) × CreatePublisher (answers_of F.allows G.allows (domain.new.boxes).publishers) s (with_slots self.settings asked) s' None)
             (λ e. CreatePublisher (answers_of F.allows G.allows (domain.new.boxes).publishers) s (with_slots self.settings asked) s' (Some e))) }
-        ensures made { IfOk result (λ publisher. IsMade self.settings self.box self.degradation_box (H.as_port publisher) domain.old domain.new) }
+        ensures made { IfOk result (λ publisher. IsMadePublisher self.settings self.box self.degradation_box (H.as_port publisher) domain.old domain.new) }
         ensures left { AsksForAll (P.post (callback_of self)) (worst_case (domain.old.config) self.settings.max_loaned_samples) → LendsFirst (domain.old.config) self.settings → IfOk result (λ publisher. HasLoansLeft domain.new (H.as_port publisher) self.settings.max_loaned_samples) }
         ensures refused { OnErr result (WaitingStays domain.old domain.new) }
         ensures leaves { LeavesNoFewer domain.old domain.new }

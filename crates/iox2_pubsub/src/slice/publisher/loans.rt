@@ -10,7 +10,7 @@ use iox2_machine::{BackpressureFn, DegradationFn, LoanError};
 impl Publisher {
     ghost use Rattle.iox2_machine.specs.declared.service_config.TypeVariant.TheVariants.{FixedSize};
     ghost use Rattle.iox2_domain.specs.Lending.{LoanCall};
-    ghost use Rattle.iox2_pubsub.specs.GrantedLoans.{IsLentUnwritten, IsLentWritten, IsReadyForSlices, IsUnfilled};
+    ghost use Rattle.iox2_pubsub.specs.GrantedLoans.{IsLentUnwritten, IsLentWritten, IsReadyForSlices, HasOnlyUnwrittenCells};
     ghost use Rattle.iox2_pubsub.specs.Handles.{as_publisher, as_unwritten, as_written, max_slice_len_of, publisher_id, written_number};
     ghost use Rattle.iox2_pubsub.specs.Leaves.{LeavesLending};
     ghost use Rattle.iox2_pubsub.specs.Live.{IsReadyPublisher};
@@ -50,7 +50,7 @@ impl Publisher {
         ensures granted { (loans numbers : ℕ) → HasLoansLeft domain.old (as_publisher self.now) (loans + 1) → HasNumbersLeft domain.old (numbers + 1)
             → slice_len ≤ max_slice_len_of (as_publisher self.now) → IsOk result }
         ensures loan { IfOk result (λ loan. IsLentUnwritten (as_publisher self.now) (as_unwritten loan) domain.old domain.new) }
-        ensures unfilled { IfOk result (λ loan. IsUnfilled (as_publisher self.now) (as_unwritten loan) slice_len slice_len domain.old domain.new) }
+        ensures unfilled { IfOk result (λ loan. HasOnlyUnwrittenCells (as_publisher self.now) (as_unwritten loan) slice_len slice_len domain.old domain.new) }
         ensures refused { OnErr result (LoansLeftStay domain.old domain.new) }
         ensures leaves { LeavesLending (as_publisher self.now) domain.old domain.new }
     {
@@ -101,7 +101,7 @@ impl Publisher {
         ensures granted { (loans numbers : ℕ) → HasLoansLeft domain.old (as_publisher self.now) (loans + 1) → HasNumbersLeft domain.old (numbers + 1)
             → slice_len ≤ max_slice_len_of (as_publisher self.now) → IsOk result }
         ensures loan { IfOk result (λ loan. IsLentUnwritten (as_publisher self.now) (as_unwritten loan) domain.old domain.new) }
-        ensures unfilled { IfOk result (λ loan. IsUnfilled (as_publisher self.now) (as_unwritten loan) slice_len (slice_len * (domain.old.config).units_per_element) domain.old domain.new) }
+        ensures unfilled { IfOk result (λ loan. HasOnlyUnwrittenCells (as_publisher self.now) (as_unwritten loan) slice_len (slice_len * (domain.old.config).units_per_element) domain.old domain.new) }
         ensures refused { OnErr result (LoansLeftStay domain.old domain.new) }
         ensures leaves { LeavesLending (as_publisher self.now) domain.old domain.new }
     {

@@ -13,7 +13,7 @@ impl SampleMut {
     ghost use Rattle.iox2_machine.specs.machine.State.{State, Messages, with_loan};
     ghost use Rattle.iox2_domain.specs.LoanCalls.{user_header_changed};
     ghost use Rattle.iox2_domain.specs.Shows.{Shows};
-    ghost use Rattle.iox2_pubsub.specs.ChangedLoans.{with_user_header};
+    ghost use Rattle.iox2_pubsub.specs.ChangedLoans.{with_user_header_left};
     ghost use Rattle.iox2_pubsub.specs.Live.{IsWritten, IsWrittenLoan, LoanHasHeader, LoanHasUserHeader, NeverWaits, written_key, written_loan};
     ghost use Rattle.iox2_pubsub.specs.Leaves.{LeavesBut};
     ghost use Rattle.iox2_pubsub.specs.LoanLends.{LendsUserHeader};
@@ -34,15 +34,15 @@ impl SampleMut {
         ensures user_header { LoanHasUserHeader domain.old (written_key (as_written sample.old)) result.now }
         ensures changes { (m : Messages T U) (s : State T U) (user_header : U) → Shows domain.old m s
             → (l : Loan T U) × (s.loans (written_number (as_written sample.old)) ≡ Some l)
-            × Shows (with_user_header domain.old (written_number (as_written sample.old)) user_header) m (with_loan s (written_number (as_written sample.old)) (Some (user_header_changed user_header l))) }
-        ensures out { (user_header : U) → IsWritten (with_user_header domain.old (written_number (as_written sample.old)) user_header) (as_written sample.old) }
-        ensures live { NeverWaits domain.old (written_key (as_written sample.old)) → (user_header : U) → IsWrittenLoan (with_user_header domain.old (written_number (as_written sample.old)) user_header) (as_written sample.old) }
-        ensures is { (user_header : U) → LoanHasUserHeader (with_user_header domain.old (written_number (as_written sample.old)) user_header) (written_key (as_written sample.old)) user_header }
+            × Shows (with_user_header_left domain.old (written_number (as_written sample.old)) user_header) m (with_loan s (written_number (as_written sample.old)) (Some (user_header_changed user_header l))) }
+        ensures out { (user_header : U) → IsWritten (with_user_header_left domain.old (written_number (as_written sample.old)) user_header) (as_written sample.old) }
+        ensures live { NeverWaits domain.old (written_key (as_written sample.old)) → (user_header : U) → IsWrittenLoan (with_user_header_left domain.old (written_number (as_written sample.old)) user_header) (as_written sample.old) }
+        ensures is { (user_header : U) → LoanHasUserHeader (with_user_header_left domain.old (written_number (as_written sample.old)) user_header) (written_key (as_written sample.old)) user_header }
         ensures reads { (user_header : U) (values : List T) → HasValues domain.old (written_number (as_written sample.old)) values
-            → HasValues (with_user_header domain.old (written_number (as_written sample.old)) user_header) (written_number (as_written sample.old)) values }
+            → HasValues (with_user_header_left domain.old (written_number (as_written sample.old)) user_header) (written_number (as_written sample.old)) values }
         ensures header { (user_header : U) (header : Header) → LoanHasHeader domain.old (written_key (as_written sample.old)) header
-            → LoanHasHeader (with_user_header domain.old (written_number (as_written sample.old)) user_header) (written_key (as_written sample.new)) header }
-        ensures leaves { (user_header : U) → LeavesBut (written_loan (as_written sample.old)) domain.old (with_user_header domain.old (written_number (as_written sample.old)) user_header) }
+            → LoanHasHeader (with_user_header_left domain.old (written_number (as_written sample.old)) user_header) (written_key (as_written sample.new)) header }
+        ensures leaves { (user_header : U) → LeavesBut (written_loan (as_written sample.old)) domain.old (with_user_header_left domain.old (written_number (as_written sample.old)) user_header) }
     {
         crate::SampleMut::user_header_mut(domain, &mut sample.sample)
     }

@@ -13,8 +13,8 @@ impl SampleMutUninit {
     ghost use Rattle.iox2_machine.specs.machine.State.{State, Messages, with_loan};
     ghost use Rattle.iox2_domain.specs.LoanCalls.{user_header_changed};
     ghost use Rattle.iox2_domain.specs.Shows.{Shows};
-    ghost use Rattle.iox2_pubsub.specs.ChangedLoans.{with_user_header};
-    ghost use Rattle.iox2_pubsub.specs.Live.{IsUnwritten, IsUnwrittenLoan, LoanHasHeader, LoanHasUserHeader, NeverWaits, unwritten_key, unwritten_loan};
+    ghost use Rattle.iox2_pubsub.specs.ChangedLoans.{with_user_header_left};
+    ghost use Rattle.iox2_pubsub.specs.Live.{IsUnwritten, NeverWaitsUnwritten, LoanHasHeader, LoanHasUserHeader, NeverWaits, unwritten_key, unwritten_loan};
     ghost use Rattle.iox2_pubsub.specs.Leaves.{LeavesBut};
     ghost use Rattle.iox2_pubsub.specs.LoanLends.{LendsUserHeader};
     ghost use Rattle.iox2_pubsub.specs.Slices.{HasUnwrittenCells};
@@ -34,15 +34,15 @@ impl SampleMutUninit {
         ensures user_header { LoanHasUserHeader domain.old (unwritten_key (as_unwritten sample.old)) result.now }
         ensures changes { (m : Messages T U) (s : State T U) (user_header : U) → Shows domain.old m s
             → (l : Loan T U) × (s.loans (unwritten_number (as_unwritten sample.old)) ≡ Some l)
-            × Shows (with_user_header domain.old (unwritten_number (as_unwritten sample.old)) user_header) m (with_loan s (unwritten_number (as_unwritten sample.old)) (Some (user_header_changed user_header l))) }
-        ensures out { (user_header : U) → IsUnwritten (with_user_header domain.old (unwritten_number (as_unwritten sample.old)) user_header) (as_unwritten sample.old) }
-        ensures live { NeverWaits domain.old (unwritten_key (as_unwritten sample.old)) → (user_header : U) → IsUnwrittenLoan (with_user_header domain.old (unwritten_number (as_unwritten sample.old)) user_header) (as_unwritten sample.old) }
-        ensures is { (user_header : U) → LoanHasUserHeader (with_user_header domain.old (unwritten_number (as_unwritten sample.old)) user_header) (unwritten_key (as_unwritten sample.old)) user_header }
+            × Shows (with_user_header_left domain.old (unwritten_number (as_unwritten sample.old)) user_header) m (with_loan s (unwritten_number (as_unwritten sample.old)) (Some (user_header_changed user_header l))) }
+        ensures out { (user_header : U) → IsUnwritten (with_user_header_left domain.old (unwritten_number (as_unwritten sample.old)) user_header) (as_unwritten sample.old) }
+        ensures live { NeverWaits domain.old (unwritten_key (as_unwritten sample.old)) → (user_header : U) → NeverWaitsUnwritten (with_user_header_left domain.old (unwritten_number (as_unwritten sample.old)) user_header) (as_unwritten sample.old) }
+        ensures is { (user_header : U) → LoanHasUserHeader (with_user_header_left domain.old (unwritten_number (as_unwritten sample.old)) user_header) (unwritten_key (as_unwritten sample.old)) user_header }
         ensures reads { (user_header : U) (cells : List (Option T)) → HasUnwrittenCells domain.old (unwritten_number (as_unwritten sample.old)) cells
-            → HasUnwrittenCells (with_user_header domain.old (unwritten_number (as_unwritten sample.old)) user_header) (unwritten_number (as_unwritten sample.old)) cells }
+            → HasUnwrittenCells (with_user_header_left domain.old (unwritten_number (as_unwritten sample.old)) user_header) (unwritten_number (as_unwritten sample.old)) cells }
         ensures header { (user_header : U) (header : Header) → LoanHasHeader domain.old (unwritten_key (as_unwritten sample.old)) header
-            → LoanHasHeader (with_user_header domain.old (unwritten_number (as_unwritten sample.old)) user_header) (unwritten_key (as_unwritten sample.new)) header }
-        ensures leaves { (user_header : U) → LeavesBut (unwritten_loan (as_unwritten sample.old)) domain.old (with_user_header domain.old (unwritten_number (as_unwritten sample.old)) user_header) }
+            → LoanHasHeader (with_user_header_left domain.old (unwritten_number (as_unwritten sample.old)) user_header) (unwritten_key (as_unwritten sample.new)) header }
+        ensures leaves { (user_header : U) → LeavesBut (unwritten_loan (as_unwritten sample.old)) domain.old (with_user_header_left domain.old (unwritten_number (as_unwritten sample.old)) user_header) }
     {
         crate::SampleMutUninit::user_header_mut(domain, &mut sample.sample)
     }

@@ -8,7 +8,7 @@ use iox2_machine::{BackpressureFn, DegradationFn, ReceiveError};
 impl Subscriber {
     ghost use Rattle.iox2_domain.specs.Boxes.{answers_of};
     ghost use Rattle.iox2_pubsub.specs.Live.{IsLiveSubscriber};
-    ghost use Rattle.iox2_pubsub.specs.ReceivedSamples.{Receives};
+    ghost use Rattle.iox2_pubsub.specs.ReceivedSamples.{ReceivesSample};
     ghost use Rattle.iox2_pubsub.specs.Handles.{as_subscriber};
 
     /// Updates the subscriber's connections and receives the oldest message that waits from one
@@ -28,7 +28,7 @@ impl Subscriber {
         domain: &mut Domain<T, U, F, G>,
     ) -> Result<Option<Sample>, ReceiveError>
         requires live { IsLiveSubscriber domain.old (as_subscriber self.now) }
-        ensures { Receives (answers_of F.allows G.allows (domain.old.boxes).subscribers) (as_subscriber self.now) result domain.old domain.new }
+        ensures { ReceivesSample (answers_of F.allows G.allows (domain.old.boxes).subscribers) (as_subscriber self.now) result domain.old domain.new }
     {
         match self.subscriber.receive(domain) {
             Ok(Some(sample)) => Ok(Some(sample.into_kind())),
@@ -46,7 +46,7 @@ impl Subscriber {
         domain: &mut Domain<CustomPayloadMarker, U, F, G>,
     ) -> Result<Option<Sample>, ReceiveError>
         requires live { IsLiveSubscriber domain.old (as_subscriber self.now) }
-        ensures { Receives (answers_of F.allows G.allows (domain.old.boxes).subscribers) (as_subscriber self.now) result domain.old domain.new }
+        ensures { ReceivesSample (answers_of F.allows G.allows (domain.old.boxes).subscribers) (as_subscriber self.now) result domain.old domain.new }
     {
         self.receive(domain)
     }

@@ -1,5 +1,5 @@
 use Rattle.std.proofs.Common.{arith, refl, rules, subst, ◌∙◌, ℕ}
-use Rattle.iox2_pubsub.specs.ChangedLoans.{with_user_header}
+use Rattle.iox2_pubsub.specs.ChangedLoans.{with_user_header_left}
 use Rattle.iox2_request_response.specs.Sent.{SendsOne}
 use Rattle.iox2_request_response.specs.declared.tags.RequestTag.{RequestTag}
 use Rattle.iox2_request_response.proofs.SentMessages.{sends-tagged}
@@ -17,7 +17,7 @@ returns-in-Ok-clause-asked g c =
     c.send.new.domain) (c.value.ensures ∙ c.id.ensures)
     (sends-tagged {T = g.row.Q.Denot} {U = RequestTag} {F = g.row.F.Denot}
     {G = g.row.G.Denot} c.args.service.now.requests c.loan_uninit.new.domain
-    (with_user_header {T = g.row.Q.Denot} {U = RequestTag} {F = g.row.F.Denot}
+    (with_user_header_left {T = g.row.Q.Denot} {U = RequestTag} {F = g.row.F.Denot}
     {G = g.row.G.Denot} c.loan_uninit.new.domain c.in_ok-loan.loan.loan.number tag) c.write_payload-message.new.domain
     c.send.new.domain
     c.in_ok-loan.loan c.user_header_mut.new.sample c.write_payload-message.result tag c.args.value

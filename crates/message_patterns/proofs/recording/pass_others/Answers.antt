@@ -4,7 +4,7 @@ use Rattle.std.proofs.lemmas.Bool.{eqb-false, eqb-true, not-true, true≢false}
 use Rattle.iox2_pubsub.specs.BlockedSends.{IsNotNext}
 use Rattle.iox2_pubsub.specs.Domains.{Key}
 use Rattle.iox2_pubsub.specs.Handles.{subscriber_id}
-use Rattle.iox2_pubsub.specs.Live.{A_blocked_send, IsServed, StaysBut, blocked_send}
+use Rattle.iox2_pubsub.specs.Live.{A_blocked_send, IsServed, StaysBut, blocked_item}
 use Rattle.iox2_pubsub.proofs.ForCallers.{stays_but_twice, up_to_date_twice}
 use Rattle.iox2_pubsub.proofs.SinceThen.{stays_since}
 use Rattle.message_patterns.proofs.Recordings.{ends-served, still-underway, waits-for-it}
@@ -32,7 +32,7 @@ loop-blocked-preserved g c =
           (c.subscriber.ensures.others c.args.recorder.now (another c.subscriber.result c.id.result (subscriber_id c.args.recorder.now) c.loop-blocked-test.ensures c.id.ensures))
           c.in-Ok-Blocked.again (ap (λ (k : Key). k.port) gone.goes_on.blocked.1) gone.resumes gone.goes_on.up_to_date gone.goes_on.stays.settings gone.goes_on.stays.buffers;
       up_to_date = up_to_date_twice c.args.domain.now c.loop-blocked.domain c.give_up.new.domain before.up_to_date gone.goes_on.up_to_date;
-      stays = stays_but_twice c.args.domain.now c.loop-blocked.domain c.give_up.new.domain (blocked_send c.args.waiting) before.stays
+      stays = stays_but_twice c.args.domain.now c.loop-blocked.domain c.give_up.new.domain (blocked_item c.args.waiting) before.stays
           (subst (λ (k : Key). StaysBut (A_blocked_send k.port) c.loop-blocked.domain c.give_up.new.domain) before.same gone.goes_on.stays);
     }
 
@@ -66,11 +66,11 @@ pub returns-in-Ok-Delivered-clause-stays : goal.returns-in-Ok-Delivered-clause-s
 returns-in-Ok-Delivered-clause-stays g c =
     let gone = rw c.in-Ok-Delivered.field-0-is at c.in-Ok-Delivered.ensures in
     let before = c.loop-blocked.invariant in
-    stays_but_twice c.args.domain.now c.loop-blocked.domain c.give_up.new.domain (blocked_send c.args.waiting) before.stays
+    stays_but_twice c.args.domain.now c.loop-blocked.domain c.give_up.new.domain (blocked_item c.args.waiting) before.stays
     (subst (λ (k : Key). StaysBut (A_blocked_send k.port) c.loop-blocked.domain c.give_up.new.domain) before.same gone.goes_on.stays)
 
 pub returns-in-Err-clause-stays : goal.returns-in-Err-clause-stays
 returns-in-Err-clause-stays g c =
     let before = c.loop-blocked.invariant in
-    stays_but_twice c.args.domain.now c.loop-blocked.domain c.give_up.new.domain (blocked_send c.args.waiting) before.stays
+    stays_but_twice c.args.domain.now c.loop-blocked.domain c.give_up.new.domain (blocked_item c.args.waiting) before.stays
     (subst (λ (k : Key). StaysBut (A_blocked_send k.port) c.loop-blocked.domain c.give_up.new.domain) before.same c.in-Err.ensures.goes_on.stays)

@@ -6,7 +6,7 @@ use Rattle.iox2_pubsub.specs.Live.{A_blocked_send, IsConnected, IsUnblocked, Ite
 use Rattle.iox2_pubsub.specs.declared.send_outcome.SendOutcome.TheVariants.{Blocked}
 use Rattle.iox2_pubsub.proofs.ForCallers.{copy_leaves, stays_but_twice, up_to_date_twice}
 use Rattle.iox2_pubsub.proofs.SinceThen.{stays_then}
-use Rattle.message_patterns.specs.Recordings.{IsRecorded, IsUnderway}
+use Rattle.message_patterns.specs.Recordings.{RecorderIsServed, IsUnderway}
 use Rattle.message_patterns.proofs.Recordings.{blocked-as, ended-so, recorded-takes}
 use Rattle.message_patterns.proofs.recording.record.Goals as goal
 
@@ -35,7 +35,7 @@ returns-in-Ok-Blocked-clause-recorded g c =
       buffer = sent.stays.buffers recorder;
       came = sent.pending recorder c.requires.connected;
     } in
-    IfOk-weaker c.pass_others.result _ _ (λ waits carries. subst (λ (p : ℕ). IsRecorded old c.pass_others.new.domain p recorder c.args.number waits) same (carries old c.args.number under)) c.pass_others.ensures.carries_on
+    IfOk-weaker c.pass_others.result _ _ (λ waits carries. subst (λ (p : ℕ). RecorderIsServed old c.pass_others.new.domain p recorder c.args.number waits) same (carries old c.args.number under)) c.pass_others.ensures.carries_on
 
 pub returns-in-Ok-Blocked-clause-taken : goal.returns-in-Ok-Blocked-clause-taken
 returns-in-Ok-Blocked-clause-taken g c = λ earlier more takes.

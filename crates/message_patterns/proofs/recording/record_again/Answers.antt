@@ -2,10 +2,10 @@ use Rattle.std.proofs.Common.{◌≡◌, ℕ, [], ◌∷◌, sym, ap, subst}
 use Rattle.std.proofs.lemmas.Result.{IfOk-weaker}
 use Rattle.iox2_pubsub.specs.Domains.{Key}
 use Rattle.iox2_pubsub.specs.Handles.{blocked_sender}
-use Rattle.iox2_pubsub.specs.Live.{A_blocked_send, IsConnected, StaysBut, blocked_key, blocked_send}
+use Rattle.iox2_pubsub.specs.Live.{A_blocked_send, IsConnected, StaysBut, blocked_key, blocked_item}
 use Rattle.iox2_pubsub.proofs.ForCallers.{stays_but_twice}
 use Rattle.iox2_pubsub.proofs.SinceThen.{stays_since}
-use Rattle.message_patterns.specs.Recordings.{IsRecorded, IsUnderway}
+use Rattle.message_patterns.specs.Recordings.{RecorderIsServed, IsUnderway}
 use Rattle.message_patterns.proofs.Recordings.{blocked-as, ended-so}
 use Rattle.message_patterns.proofs.recording.record_again.Goals as goal
 
@@ -28,7 +28,7 @@ returns-in-Ok-Blocked-clause-recorded g c = λ number pending joined.
       buffer = gone.goes_on.stays.buffers recorder;
       came = gone.resumes.pending recorder (number ∷ []) tt pending joined;
     } in
-    IfOk-weaker c.pass_others.result _ _ (λ waits carries. subst (λ (p : ℕ). IsRecorded old c.pass_others.new.domain p recorder number waits) same (carries old number under)) c.pass_others.ensures.carries_on
+    IfOk-weaker c.pass_others.result _ _ (λ waits carries. subst (λ (p : ℕ). RecorderIsServed old c.pass_others.new.domain p recorder number waits) same (carries old number under)) c.pass_others.ensures.carries_on
 
 pub returns-in-Ok-Blocked-clause-blocked : goal.returns-in-Ok-Blocked-clause-blocked
 returns-in-Ok-Blocked-clause-blocked g c =
@@ -51,5 +51,5 @@ returns-in-Err-clause-ends g c = c.in-Err.ensures.goes_on.stays_since tt
 pub returns-in-Ok-Blocked-clause-stays : goal.returns-in-Ok-Blocked-clause-stays
 returns-in-Ok-Blocked-clause-stays g c =
     let gone = rw c.in-Ok-Blocked.field-0-is at c.in-Ok-Blocked.ensures in
-    stays_but_twice c.args.domain.now c.retry.new.domain c.pass_others.new.domain (blocked_send c.args.waiting) gone.goes_on.stays
+    stays_but_twice c.args.domain.now c.retry.new.domain c.pass_others.new.domain (blocked_item c.args.waiting) gone.goes_on.stays
     (subst (λ (k : Key). StaysBut (A_blocked_send k.port) c.retry.new.domain c.pass_others.new.domain) gone.goes_on.blocked.1 c.pass_others.ensures.stays)

@@ -4,7 +4,7 @@ use Rattle.iox2_pubsub.specs.Live.{IsUpToDate, KeepsAll, Stays, UpToDateStay}
 use Rattle.iox2_pubsub.specs.declared.subscriber.Subscriber.{Subscriber}
 use Rattle.message_patterns.specs.Moves.{HasMoved}
 use Rattle.iox2_pubsub.specs.BorrowsLeft.{HasBorrowsLeft}
-use Rattle.message_patterns.specs.Values.{CanSend, TakesMore, Wait}
+use Rattle.message_patterns.specs.Values.{CanSendValues, TakesMore, Wait}
 use Rattle.message_patterns.proofs.relaying.relay.Given as goal
 
 abbrev pub invariant-loop-moved : goal.invariant-loop-moved
@@ -15,5 +15,5 @@ invariant-loop-moved l = record {
       → TakesMore l.fn.to (publisher_id l.publisher) reader earlier (l.moved + more)
       → HasMoved l.from l.to origin l.subscriber (publisher_id l.publisher) reader values earlier l.moved more;
   borrows : HasBorrowsLeft l.fn.from l.subscriber 1 → HasBorrowsLeft l.from l.subscriber 1;
-  granted : IsUpToDate l.fn.from l.subscriber → HasBorrowsLeft l.fn.from l.subscriber 1 → (left : ℕ) → CanSend l.fn.to l.publisher (l.moved + left) → CanSend l.to l.publisher left;
+  granted : IsUpToDate l.fn.from l.subscriber → HasBorrowsLeft l.fn.from l.subscriber 1 → (left : ℕ) → CanSendValues l.fn.to l.publisher (l.moved + left) → CanSendValues l.to l.publisher left;
 }

@@ -1,6 +1,6 @@
 use Rattle.std.proofs.Common.{ap}
 use Rattle.iox2_machine.specs.machine.ChannelCalls.{sent_closed}
-use Rattle.iox2_c.specs.Channels.{ComesTo}
+use Rattle.iox2_c.specs.Channels.{ChangesTo}
 use Rattle.iox2_c.specs.Numbers.{wide}
 use Rattle.iox2_c.specs.Serving.{Serving}
 use Rattle.iox2_c.proofs.BecomesSteps.{moved}
@@ -8,5 +8,5 @@ use Rattle.iox2_c.proofs.calls.channel_changes.close_sent.Goals as goal
 
 pub returns-clause-closes : goal.returns-clause-closes
 returns-clause-closes c = λ ok.
-    moved (λ k p. ComesTo k c.close_channel.new.domain (λ s. sent_closed s p c.args.channel c.args.connection c.args.expected)) c.service.inside.domain c.args.service.now.domain _
+    moved (λ k p. ChangesTo k c.close_channel.new.domain (λ s. sent_closed s p c.args.channel c.args.connection c.args.expected)) c.service.inside.domain c.args.service.now.domain _
     (wide c.args.numbers.now.id) (ap (λ (s : Serving). s.domain) c.service.view_is) c.in-Ok.ensures.id c.close_channel.ensures.closed

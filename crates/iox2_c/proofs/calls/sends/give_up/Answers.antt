@@ -7,17 +7,17 @@ use Rattle.iox2_pubsub.specs.declared.parts.LoanParts.{LoanParts}
 use Rattle.iox2_pubsub.specs.declared.send_outcome.SendOutcome.{SendOutcome}
 use Rattle.iox2_c.specs.Numbers.{wide}
 use Rattle.iox2_c.specs.Serving.{KeptBytes, Serving}
-use Rattle.iox2_c.specs.Steps.{GivesUp}
+use Rattle.iox2_c.specs.Steps.{BlockedSendGivesUp}
 use Rattle.iox2_c.proofs.calls.sends.give_up.Goals as goal
 
 pub returns-clause-ends : goal.returns-clause-ends
 returns-clause-ends c = λ live.
     let sent : Result SendOutcome SendError = c.give_up-end.result in
     let id : blocked_sender c.in-Some.waiting ≡ wide c.args.numbers.now.publisher = ap (λ (p : LoanParts). p.publisher) c.in-Some.ensures.named ∙ ap (λ (k : Key). k.port) c.parts.ensures in
-    let step : GivesUp c.service.inside.domain c.give_up-end.new.domain (blocked_sender c.in-Some.waiting) sent = c.give_up-end.ensures.gives_up in (
+    let step : BlockedSendGivesUp c.service.inside.domain c.give_up-end.new.domain (blocked_sender c.in-Some.waiting) sent = c.give_up-end.ensures.gives_up in (
       sent,
       c.tell-code.ensures.code_is,
       c.tell-code.ensures.receivers,
-      subst (λ (old : KeptBytes). GivesUp old c.give_up-end.new.domain (wide c.args.numbers.now.publisher) sent) (ap (λ (s : Serving). s.domain) c.service.view_is)
-          (subst (λ (p : ℕ). GivesUp c.service.inside.domain c.give_up-end.new.domain p sent) id step),
+      subst (λ (old : KeptBytes). BlockedSendGivesUp old c.give_up-end.new.domain (wide c.args.numbers.now.publisher) sent) (ap (λ (s : Serving). s.domain) c.service.view_is)
+          (subst (λ (p : ℕ). BlockedSendGivesUp c.service.inside.domain c.give_up-end.new.domain p sent) id step),
     )

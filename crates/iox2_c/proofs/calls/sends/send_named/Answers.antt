@@ -4,7 +4,7 @@ use Rattle.iox2_machine.specs.declared.errors.SendError.{SendError}
 use Rattle.iox2_pubsub.specs.declared.send_outcome.SendOutcome.{SendOutcome}
 use Rattle.iox2_c.specs.Numbers.{wide}
 use Rattle.iox2_c.specs.Serving.{KeptBytes, Serving}
-use Rattle.iox2_c.specs.Steps.{SendsLoan}
+use Rattle.iox2_c.specs.Steps.{SendsNumbered}
 use Rattle.iox2_c.proofs.calls.sends.send_named.Goals as goal
 
 pub returns : goal.returns
@@ -15,8 +15,8 @@ returns c =
         sent,
         c.tell_of.ensures.code_is,
         c.tell_of.ensures.receivers,
-        subst (λ (old : KeptBytes). SendsLoan old c.send-sent.new.domain (wide c.args.numbers.now.number) sent) (ap (λ (s : Serving). s.domain) c.service.view_is)
-            (subst (λ n. SendsLoan c.service.inside.domain c.send-sent.new.domain n sent) c.in-Some.ensures.number c.send-sent.ensures.sent),
+        subst (λ (old : KeptBytes). SendsNumbered old c.send-sent.new.domain (wide c.args.numbers.now.number) sent) (ap (λ (s : Serving). s.domain) c.service.view_is)
+            (subst (λ n. SendsNumbered c.service.inside.domain c.send-sent.new.domain n sent) c.in-Some.ensures.number c.send-sent.ensures.sent),
       );
       why = search rules;
       waits = search rules;

@@ -9,7 +9,7 @@ use Rattle.iox2_pubsub.specs.ReceivedSamples.{received_result}
 use Rattle.iox2_pubsub.specs.Sample.{Sample}
 use Rattle.iox2_c.specs.Numbers.{wide}
 use Rattle.iox2_c.specs.Serving.{KeptBytes, Serving}
-use Rattle.iox2_c.specs.Steps.{Receives}
+use Rattle.iox2_c.specs.Steps.{SubscriberReceives}
 use Rattle.iox2_c.proofs.BecomesSteps.{receives-moved}
 use Rattle.iox2_c.proofs.calls.subscribers.receive_copy.Goals as goal
 
@@ -35,7 +35,7 @@ returns-in-Ok-Some-clause-copied c = λ ok. (
 
 pub returns-in-Ok-Some-clause-kept : goal.returns-in-Ok-Some-clause-kept
 returns-in-Ok-Some-clause-kept c = λ small.
-    subst (λ (k : KeptBytes). Receives c.args.service.now.domain k (wide c.args.numbers.now.id) (Got_sample (wide c.copy_out.new.out.origin) (wide c.copy_out.new.out.number)))
+    subst (λ (k : KeptBytes). SubscriberReceives c.args.service.now.domain k (wide c.args.numbers.now.id) (Got_sample (wide c.copy_out.new.out.origin) (wide c.copy_out.new.out.number)))
     (sym (ap (λ (s : Serving). s.domain) (c.copy_out.ensures.kept small)))
     (receives-moved c.service.inside.domain c.args.service.now.domain c.receive-received.new.domain _ (wide c.args.numbers.now.id) _ _
     (ap (λ (s : Serving). s.domain) c.service.view_is) c.in-Some.ensures.id

@@ -1,7 +1,7 @@
 use Rattle.std.proofs.Common.{◌≡◌, ◌<◌, ◌∙◌, false, length, refl}
 use Rattle.std.proofs.lemmas.List.{length-set}
 use Rattle.iox2_contents.specs.SlotContents.{with_first_cell}
-use Rattle.iox2_contents.specs.SlotStates.{waits, with_content}
+use Rattle.iox2_contents.specs.SlotStates.{slot_waits, with_content}
 use Rattle.iox2_contents.proofs.SlotReads.{content_read, some_read, some_slot_within}
 use Rattle.iox2_contents.proofs.SlotLists.{changed-contents, content-at, lent}
 use Rattle.iox2_contents.proofs.contents.Contents.cell_mut.Goals as goal
@@ -20,7 +20,7 @@ cell_mut-requires-clause-first g c =
     (content_read _ c.ready.new.slots.items _ c.args.slot (λ content. 0 < length content.cells) _ (c.ready.ensures.same ∙ c.self.view_is) c.requires c.index_mut.ensures.value).1
 
 pub cell_mut-requires-clause-ready : goal.cell_mut-requires-clause-ready
-cell_mut-requires-clause-ready g c = (some_read c.ready.new.slots.items c.args.slot (λ s. waits s ≡ false) c.index_mut.result.now c.ready.ensures.ready c.index_mut.ensures.value).1
+cell_mut-requires-clause-ready g c = (some_read c.ready.new.slots.items c.args.slot (λ s. slot_waits s ≡ false) c.index_mut.result.now c.ready.ensures.ready c.index_mut.ensures.value).1
 
 pub invariant_of-self-lent : goal.invariant_of-self-lent
 invariant_of-self-lent g c =

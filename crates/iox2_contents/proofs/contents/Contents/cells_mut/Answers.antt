@@ -1,7 +1,7 @@
 use Rattle.std.proofs.Common.{◌≡◌, ◌<◌, ◌∙◌, false, refl, ap, sym, Some}
 use Rattle.std.specs.List.{length_refill}
 use Rattle.iox2_contents.specs.SlotContents.{with_cells}
-use Rattle.iox2_contents.specs.SlotStates.{waits, with_content}
+use Rattle.iox2_contents.specs.SlotStates.{slot_waits, with_content}
 use Rattle.iox2_contents.proofs.SlotReads.{content_read, some_read, some_slot_within}
 use Rattle.iox2_contents.proofs.OpenSlots.{from-shown}
 use Rattle.iox2_contents.proofs.SlotLists.{changed-contents, content-at, lent}
@@ -21,7 +21,7 @@ cells_mut-requires-clause-lists g c =
     from-shown _ c.index_mut.result.now (content_read _ c.ready.new.slots.items _ c.args.slot (λ content. 0 < content.lists) _ (c.ready.ensures.same ∙ c.self.view_is) c.requires c.index_mut.ensures.value).1
 
 pub cells_mut-requires-clause-ready : goal.cells_mut-requires-clause-ready
-cells_mut-requires-clause-ready g c = (some_read c.ready.new.slots.items c.args.slot (λ s. waits s ≡ false) c.index_mut.result.now c.ready.ensures.ready c.index_mut.ensures.value).1
+cells_mut-requires-clause-ready g c = (some_read c.ready.new.slots.items c.args.slot (λ s. slot_waits s ≡ false) c.index_mut.result.now c.ready.ensures.ready c.index_mut.ensures.value).1
 
 pub invariant_of-self-lent : goal.invariant_of-self-lent
 invariant_of-self-lent g c =

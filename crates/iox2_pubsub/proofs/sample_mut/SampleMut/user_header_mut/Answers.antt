@@ -2,7 +2,7 @@ use Rattle.std.proofs.Common.{refl, subst}
 use Rattle.iox2_domain.specs.Kept.{Kept, state_of}
 use Rattle.iox2_domain.specs.LoanCalls.{HasLoanUserHeader, user_header_changed}
 use Rattle.iox2_domain.proofs.lemmas.loans.LentLoans.{header-lent}
-use Rattle.iox2_pubsub.specs.ChangedLoans.{with_user_header}
+use Rattle.iox2_pubsub.specs.ChangedLoans.{with_user_header_left}
 use Rattle.iox2_pubsub.specs.Live.{written_key}
 use Rattle.iox2_pubsub.proofs.LiveParts.{loan-user-header}
 use Rattle.iox2_pubsub.proofs.LoanHandles.{loan-out}
@@ -21,7 +21,7 @@ invariant_of-domain-lent g c = λ w. (header-lent {T = g.row.T.Denot} {U = g.row
 pub returns : goal.returns
 returns g c =
     let known = header-known {T = g.row.T.Denot} {U = g.row.U.Denot} c.domain.inside.state c.domain.invariant c.args.sample.now.loan.publisher c.args.sample.now.loan.number c.find_live_loan-at.result.book c.find_live_loan-at.result.slot c.find_live_loan-at.ensures _ c.user_header_at_mut.ensures.value in
-    let lent = λ (w : g.row.U.Denot). was-lent {T = g.row.T.Denot} {U = g.row.U.Denot} c.domain.inside.state _ c.domain.invariant c.args.domain.now c.domain.view_is c.args.sample.now.loan.number (c.find_live_loan-at.ensures).loan (c.find_live_loan-at.ensures).is_out (user_header_changed w) (header-lent {T = g.row.T.Denot} {U = g.row.U.Denot} c.domain.inside.state c.domain.invariant c.args.sample.now.loan.publisher c.args.sample.now.loan.number c.find_live_loan-at.result.book c.find_live_loan-at.result.slot c.find_live_loan-at.ensures w) (with_user_header c.args.domain.now c.args.sample.now.loan.number w) (user_header-word c.args.domain.now c.args.sample.now.loan.number w) in (
+    let lent = λ (w : g.row.U.Denot). was-lent {T = g.row.T.Denot} {U = g.row.U.Denot} c.domain.inside.state _ c.domain.invariant c.args.domain.now c.domain.view_is c.args.sample.now.loan.number (c.find_live_loan-at.ensures).loan (c.find_live_loan-at.ensures).is_out (user_header_changed w) (header-lent {T = g.row.T.Denot} {U = g.row.U.Denot} c.domain.inside.state c.domain.invariant c.args.sample.now.loan.publisher c.args.sample.now.loan.number c.find_live_loan-at.result.book c.find_live_loan-at.result.slot c.find_live_loan-at.ensures w) (with_user_header_left c.args.domain.now c.args.sample.now.loan.number w) (user_header-word c.args.domain.now c.args.sample.now.loan.number w) in (
       (refl, λ w. (lent w).is),
       record {
         writes_back = tt;

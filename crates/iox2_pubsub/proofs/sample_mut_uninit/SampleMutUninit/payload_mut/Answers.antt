@@ -3,7 +3,7 @@ use Rattle.iox2_domain.specs.Kept.{Kept, state_of}
 use Rattle.iox2_domain.specs.LoanCalls.{HasCell, first_cell_changed}
 use Rattle.iox2_domain.proofs.lemmas.loans.ChangedLoan.{one-cell}
 use Rattle.iox2_domain.proofs.lemmas.loans.LentLoans.{cell-lent}
-use Rattle.iox2_pubsub.specs.ChangedLoans.{with_cell}
+use Rattle.iox2_pubsub.specs.ChangedLoans.{with_cell_left}
 use Rattle.iox2_pubsub.specs.Live.{unwritten_key}
 use Rattle.iox2_pubsub.proofs.LiveParts.{unwritten-reads, single-parts}
 use Rattle.iox2_pubsub.proofs.LoanHandles.{unwritten-out, loan-out}
@@ -24,7 +24,7 @@ returns g c =
     let out = unwritten-out {T = g.row.T.Denot} {U = g.row.U.Denot} _ c.args.domain.now c.domain.view_is c.args.sample.now c.requires.live in
     let one = one-cell {T = g.row.T.Denot} {U = g.row.U.Denot} c.domain.inside.state c.domain.invariant c.args.sample.now.loan.publisher c.args.sample.now.loan.number c.find_live_loan-at.result.book c.find_live_loan-at.result.slot c.find_live_loan-at.ensures (ap (λ (k : Kept g.row.T.Denot g.row.U.Denot g.row.F.Denot g.row.G.Denot). (k.config).variant) c.domain.view_is ∙ (single-parts c.args.domain.now c.requires.single_valued).0) (ap (λ (k : Kept g.row.T.Denot g.row.U.Denot g.row.F.Denot g.row.G.Denot). (k.config).units_per_element) c.domain.view_is ∙ (single-parts c.args.domain.now c.requires.single_valued).1) in
     let known = cell-known {T = g.row.T.Denot} {U = g.row.U.Denot} c.domain.inside.state c.domain.invariant c.args.sample.now.loan.publisher c.args.sample.now.loan.number c.find_live_loan-at.result.book c.find_live_loan-at.result.slot c.find_live_loan-at.ensures out one _ c.cell_at_mut.ensures.value in
-    let lent = λ (w : Option g.row.T.Denot). was-lent {T = g.row.T.Denot} {U = g.row.U.Denot} c.domain.inside.state _ c.domain.invariant c.args.domain.now c.domain.view_is c.args.sample.now.loan.number (c.find_live_loan-at.ensures).loan (c.find_live_loan-at.ensures).is_out (first_cell_changed w) (cell-lent {T = g.row.T.Denot} {U = g.row.U.Denot} c.domain.inside.state c.domain.invariant c.args.sample.now.loan.publisher c.args.sample.now.loan.number c.find_live_loan-at.result.book c.find_live_loan-at.result.slot c.find_live_loan-at.ensures out w) (with_cell c.args.domain.now c.args.sample.now.loan.number w) (cell-word c.args.domain.now c.args.sample.now.loan.number w) in (
+    let lent = λ (w : Option g.row.T.Denot). was-lent {T = g.row.T.Denot} {U = g.row.U.Denot} c.domain.inside.state _ c.domain.invariant c.args.domain.now c.domain.view_is c.args.sample.now.loan.number (c.find_live_loan-at.ensures).loan (c.find_live_loan-at.ensures).is_out (first_cell_changed w) (cell-lent {T = g.row.T.Denot} {U = g.row.U.Denot} c.domain.inside.state c.domain.invariant c.args.sample.now.loan.publisher c.args.sample.now.loan.number c.find_live_loan-at.result.book c.find_live_loan-at.result.slot c.find_live_loan-at.ensures out w) (with_cell_left c.args.domain.now c.args.sample.now.loan.number w) (cell-word c.args.domain.now c.args.sample.now.loan.number w) in (
       (refl, λ w. (lent w).is),
       record {
         writes_back = tt;

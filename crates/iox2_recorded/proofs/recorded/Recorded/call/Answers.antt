@@ -6,7 +6,7 @@ use Rattle.iox2_runs.specs.Carries.{defaults_of}
 use Rattle.iox2_runs.proofs.LeavingSteps.{push-placed}
 use Rattle.iox2_runs.proofs.RunLoop.{still_keeps}
 use Rattle.iox2_recorded.proofs.RecordedCalls.{ran-all, ran-kept, ran-missed, ran-whole, room-left, room-none, was-run}
-use Rattle.iox2_recorded.specs.Recorded.{has_room}
+use Rattle.iox2_recorded.specs.Recorded.{has_room_for_call}
 use Rattle.iox2_recorded.proofs.recorded.Recorded.call.Goals as goal
 use Rattle.iox2_recorded.proofs.recorded.Recorded.call.Goals.{then-has_room, else-has_room}
 
@@ -103,7 +103,7 @@ returns-clause-keeps g c =
     let old = c.args.self.now in
     elim c.if-has_room.branch [
       | then-has_room w ↦
-          let room : has_room old ≡ true = sym c.has_room.ensures ∙ w.if-has_room.true in
+          let room : has_room_for_call old ≡ true = sym c.has_room.ensures ∙ w.if-has_room.true in
           rw w.self-is
           (record {
             kept = λ _. (room-none {T = g.row.T.Denot} {U = g.row.U.Denot} {F = g.row.F.Denot} {G = g.row.G.Denot} old room, w.push_reserved-then-has_room.ensures.items, w.push_reserved-then-has_room-2.ensures.items);
@@ -111,7 +111,7 @@ returns-clause-keeps g c =
             room = λ calls has. (w.push_reserved-then-has_room.ensures.capacity ∙ has.0, w.push_reserved-then-has_room-2.ensures.capacity ∙ has.1);
           })
       | else-has_room w ↦
-          let full : has_room old ≡ false = sym c.has_room.ensures ∙ w.if-has_room.false in
+          let full : has_room_for_call old ≡ false = sym c.has_room.ensures ∙ w.if-has_room.false in
           rw w.self-is
           (record {
             kept = λ room. absurd (true≢false (sym room ∙ full));

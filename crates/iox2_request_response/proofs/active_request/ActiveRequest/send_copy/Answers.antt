@@ -1,5 +1,5 @@
 use Rattle.std.proofs.Common.{◌≡◌, Bool, false, true}
-use Rattle.iox2_pubsub.specs.ChangedLoans.{with_user_header}
+use Rattle.iox2_pubsub.specs.ChangedLoans.{with_user_header_left}
 use Rattle.iox2_request_response.specs.declared.tags.ResponseTag.{ResponseTag}
 use Rattle.iox2_request_response.proofs.SentMessages.{sends-tagged}
 use Rattle.iox2_request_response.proofs.active_request.ActiveRequest.send_copy.Goals as goal
@@ -21,7 +21,7 @@ returns-clause-tagged g c = λ taken.
     let tag : ResponseTag = record { number = c.args.self.now.number } in
     sends-tagged {T = g.row.P.Denot} {U = ResponseTag} {F = g.row.F.Denot}
     {G = g.row.G.Denot} c.args.service.now.responses c.loan_uninit.new.domain
-    (with_user_header {T = g.row.P.Denot} {U = ResponseTag} {F = g.row.F.Denot}
+    (with_user_header_left {T = g.row.P.Denot} {U = ResponseTag} {F = g.row.F.Denot}
     {G = g.row.G.Denot} c.loan_uninit.new.domain c.in_ok-loan.loan.loan.number tag) c.write_payload-message.new.domain
     c.deliver_offset_to_connection.new.domain c.in_ok-loan.loan c.user_header_mut.new.sample
     c.write_payload-message.result tag c.args.value c.user_header_mut.ensures.same

@@ -1,6 +1,6 @@
 use Rattle.std.proofs.Common.{◌<◌, ℕ, true, false, refl, sym, subst, ◌∙◌, Some}
 use Rattle.std.specs.Prelude.{slice_set}
-use Rattle.iox2_pubsub.specs.ChangedLoans.{with_cell, with_cells}
+use Rattle.iox2_pubsub.specs.ChangedLoans.{with_cell_left, with_cells_left}
 use Rattle.iox2_pubsub.specs.declared.sample_mut_uninit.SampleMutUninit.{SampleMutUninit}
 use Rattle.iox2_runs.specs.Cells.{WritesAt}
 use Rattle.iox2_runs.proofs.CellViews.{cells-alike, cell-written, cell-past, cells-past, cells-written}
@@ -19,7 +19,7 @@ payload_mut-requires-clause-single_valued g c = single-here {T = g.row.T.Denot} 
 
 pub returns-then-is_single_valued-clause-writes : goal.returns-then-is_single_valued-clause-writes
 returns-then-is_single_valued-clause-writes g c =
-    cell-written {T = g.row.T.Denot} {U = g.row.U.Denot} c.args.domain.now c.args.loan.loan.number c.args.at (with_cell c.args.domain.now c.args.loan.loan.number (Some c.args.value)) c.args.value
+    cell-written {T = g.row.T.Denot} {U = g.row.U.Denot} c.args.domain.now c.args.loan.loan.number c.args.at (with_cell_left c.args.domain.now c.args.loan.loan.number (Some c.args.value)) c.args.value
     c.payload.result.now c.if-at-ne0.false c.payload.ensures.cell (λ m s shown. c.payload_mut.ensures.changes m s (Some c.args.value) shown)
 
 pub payload-requires-2-clause-sliced : goal.payload-requires-2-clause-sliced
@@ -39,8 +39,8 @@ bounds-cells-at g c =
 
 pub returns-clause-writes : goal.returns-clause-writes
 returns-clause-writes g c =
-    subst (λ (it : SampleMutUninit). WritesAt c.args.domain.now (with_cells c.args.domain.now c.new-loan.result.sample.loan.number (slice_set c.payload_mut-cells.result.now c.args.at (Some c.args.value))) it.loan.number c.args.at c.args.value true) c.new-loan.ensures
-    (cells-written {T = g.row.T.Denot} {U = g.row.U.Denot} c.args.domain.now c.new-loan.result.sample.loan.number c.args.at (with_cells c.args.domain.now c.new-loan.result.sample.loan.number (slice_set c.payload_mut-cells.result.now c.args.at (Some c.args.value))) c.args.value
+    subst (λ (it : SampleMutUninit). WritesAt c.args.domain.now (with_cells_left c.args.domain.now c.new-loan.result.sample.loan.number (slice_set c.payload_mut-cells.result.now c.args.at (Some c.args.value))) it.loan.number c.args.at c.args.value true) c.new-loan.ensures
+    (cells-written {T = g.row.T.Denot} {U = g.row.U.Denot} c.args.domain.now c.new-loan.result.sample.loan.number c.args.at (with_cells_left c.args.domain.now c.new-loan.result.sample.loan.number (slice_set c.payload_mut-cells.result.now c.args.at (Some c.args.value))) c.args.value
     c.payload_mut-cells.result.now (slice_set c.payload_mut-cells.result.now c.args.at (Some c.args.value))
     (subst (λ (k : ℕ). c.args.at < k) (cells-alike {T = g.row.T.Denot} {U = g.row.U.Denot} c.args.domain.now c.new-loan.result.sample.loan.number c.payload-2.result.now c.payload_mut-cells.result.now c.payload-2.ensures.reads c.payload_mut-cells.ensures.payload) c.if-at-payload.false)
     c.payload_mut-cells.ensures.payload refl

@@ -6,7 +6,7 @@ use Rattle.iox2_connections.specs.Handlers.{marks_of}
 use Rattle.iox2_ports.specs.Handlers.{custom_box}
 use Rattle.iox2_ports.specs.Settings.{settings_with}
 use Rattle.iox2_pubsub.specs.Factories.{PublisherFactory}
-use Rattle.iox2_pubsub.specs.MadePublishers.{IsMade}
+use Rattle.iox2_pubsub.specs.MadePublishers.{IsMadePublisher}
 use Rattle.iox2_pubsub.specs.declared.port_factory.preallocation.NoOverride.{NoOverride}
 use Rattle.iox2_pubsub.specs.declared.publisher.Publisher.{Publisher}
 use Rattle.iox2_pubsub.proofs.port_factory.publisher.PortFactoryPublisher+F+G+NoOverride+H.create.Goals as goal
@@ -29,6 +29,6 @@ returns-in-Err-clause-creates g c m s shown =
 
 pub returns-in-Ok-clause-made : goal.returns-in-Ok-clause-made
 returns-in-Ok-clause-made g c =
-    subst (λ (given : PublisherFactory g.row.F.Denot g.row.G.Denot NoOverride). IsMade given.settings given.box given.degradation_box (g.H.PortHandle.as_port c.of_port.result) c.args.domain.now c.create_plain.new.domain) c.self.view_is
-    (subst (λ (it : Publisher). IsMade (settings_with c.self.inside.options (marks_of c.self.inside.backpressure_handler) (record { allocation = c.self.inside.slots.allocation; asked_slots = None })) (custom_box c.self.inside.backpressure_handler) c.self.inside.degradation_box it c.args.domain.now c.create_plain.new.domain)
+    subst (λ (given : PublisherFactory g.row.F.Denot g.row.G.Denot NoOverride). IsMadePublisher given.settings given.box given.degradation_box (g.H.PortHandle.as_port c.of_port.result) c.args.domain.now c.create_plain.new.domain) c.self.view_is
+    (subst (λ (it : Publisher). IsMadePublisher (settings_with c.self.inside.options (marks_of c.self.inside.backpressure_handler) (record { allocation = c.self.inside.slots.allocation; asked_slots = None })) (custom_box c.self.inside.backpressure_handler) c.self.inside.degradation_box it c.args.domain.now c.create_plain.new.domain)
     (sym c.of_port.ensures) c.in-Ok.ensures.made)

@@ -7,7 +7,7 @@ use Rattle.iox2_domain.proofs.lemmas.loans.LentLoans.{cells-lent}
 use Rattle.iox2_pubsub.specs.Live.{unwritten_key}
 use Rattle.iox2_pubsub.proofs.LoanHandles.{unwritten-out, loan-out}
 use Rattle.iox2_pubsub.proofs.SliceParts.{holds-parts, has-cells}
-use Rattle.iox2_pubsub.specs.ChangedLoans.{with_cells}
+use Rattle.iox2_pubsub.specs.ChangedLoans.{with_cells_left}
 use Rattle.iox2_pubsub.proofs.LentHandles.{cells-word, cells-there, cells-known, cells-left, was-lent}
 use Rattle.iox2_pubsub.proofs.slice.sample_mut_uninit.SampleMutUninit.payload_mut.Goals as goal
 
@@ -25,7 +25,7 @@ pub returns : goal.returns
 returns g c =
     let out = unwritten-out {T = g.row.T.Denot} {U = g.row.U.Denot} _ c.args.domain.now c.domain.view_is c.args.sample.now.sample c.requires.live in
     let known = cells-known {T = g.row.T.Denot} {U = g.row.U.Denot} c.domain.inside.state c.domain.invariant c.args.sample.now.sample.loan.publisher c.args.sample.now.sample.loan.number c.find_live_loan-at.result.book c.find_live_loan-at.result.slot c.find_live_loan-at.ensures out _ c.cells_at_mut.ensures.value in
-    let lent = λ (w : List (Option g.row.T.Denot)). was-lent {T = g.row.T.Denot} {U = g.row.U.Denot} c.domain.inside.state _ c.domain.invariant c.args.domain.now c.domain.view_is c.args.sample.now.sample.loan.number (c.find_live_loan-at.ensures).loan (c.find_live_loan-at.ensures).is_out (cells_changed w) (cells-lent {T = g.row.T.Denot} {U = g.row.U.Denot} c.domain.inside.state c.domain.invariant c.args.sample.now.sample.loan.publisher c.args.sample.now.sample.loan.number c.find_live_loan-at.result.book c.find_live_loan-at.result.slot c.find_live_loan-at.ensures out w) (with_cells c.args.domain.now c.args.sample.now.sample.loan.number w) (cells-word c.args.domain.now c.args.sample.now.sample.loan.number w) in (
+    let lent = λ (w : List (Option g.row.T.Denot)). was-lent {T = g.row.T.Denot} {U = g.row.U.Denot} c.domain.inside.state _ c.domain.invariant c.args.domain.now c.domain.view_is c.args.sample.now.sample.loan.number (c.find_live_loan-at.ensures).loan (c.find_live_loan-at.ensures).is_out (cells_changed w) (cells-lent {T = g.row.T.Denot} {U = g.row.U.Denot} c.domain.inside.state c.domain.invariant c.args.sample.now.sample.loan.publisher c.args.sample.now.sample.loan.number c.find_live_loan-at.result.book c.find_live_loan-at.result.slot c.find_live_loan-at.ensures out w) (with_cells_left c.args.domain.now c.args.sample.now.sample.loan.number w) (cells-word c.args.domain.now c.args.sample.now.sample.loan.number w) in (
       (refl, λ w. (lent w).is),
       record {
         writes_back = tt;
