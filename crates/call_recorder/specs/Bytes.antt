@@ -17,7 +17,8 @@ cells bytes = map (λ byte. Cell (Some byte)) bytes
 -- A change of each byte that isn't the value, from that one on.
 abbrev pub changes_from : (of value at : ℕ) → List ℕ → List (Command ℕ ℕ)
 changes_from of value at [] = []
-changes_from of value at (byte ∷ rest) = (if nat_eq byte value then [] else SetPayload of at byte ∷ []) ++ changes_from of value (at + 1) rest
+changes_from of value at (byte ∷ rest) =
+    (if nat_eq byte value then [] else SetPayload of at byte ∷ []) ++ changes_from of value (at + 1) rest
 
 -- A write of the value to all bytes, and a change of each that is another.
 abbrev pub writes : (of value : ℕ) → List ℕ → List (Command ℕ ℕ)

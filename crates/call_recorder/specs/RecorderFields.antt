@@ -13,7 +13,8 @@ calls_of r = record {
   bytes = r.bytes;
 }
 
--- There is as much room for replies and for names as for commands, and where none was missed no more names are in it than commands.
+-- There is as much room for replies and for names as for commands, and where none was missed no more names are in it
+-- than commands.
 pub record IsRecorder (r : Inside) : Type 0 where
   pub replies : vec_len r.replies ≡ vec_len r.commands
   pub room_for_replies : vec_capacity r.replies ≡ vec_capacity r.commands

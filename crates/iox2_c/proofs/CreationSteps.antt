@@ -49,55 +49,76 @@ subscriber-code-high subscriber.UnableToCreatePortTag = omega arith
 module _ (old new : KeptBytes) (given : PublisherSettings) where
   -- what a factory says of a publisher
   abbrev pub Told : Result Publisher PublisherCreateError → Type 0
-  Told made = (m : Messages ℕ (Unit {0})) (s : BytesState) → Shows old m s → (s' : BytesState) × Shows new m s' × MatchResult made
+  Told made = (m : Messages ℕ (Unit {0})) (s : BytesState) → Shows old m s
+      → (s' : BytesState) × Shows new m s' × MatchResult made
       (λ it. (publisher_id (as_publisher it) ≡ s.next_port) × CreatePublisher (publishers_answer new) s given s' None)
       (λ error. CreatePublisher (publishers_answer new) s given s' (Some error))
 
   -- a publisher is told of by its id
-  pub by-id : (made : Result Publisher PublisherCreateError) → Told made → CreatesPublisher old new given (publisher_made made)
+  pub by-id : (made : Result Publisher PublisherCreateError) → Told made
+      → CreatesPublisher old new given (publisher_made made)
   by-id (Ok it) told = told
   by-id (Err error) told = told
 
   -- with the code 0 it is made
-  pub publisher-creates : (made : Result Publisher PublisherCreateError) (code : ℕ) (out : PublisherNumbers) → CreatesPublisher old new given (publisher_made made)
-      → code ≡ code_of publisher_code made → IfOk made (λ it. named_publisher out ≡ publisher_key (as_publisher it)) → code ≡ 0 → CreatesPublisher old new given (Ok (wide out.id))
-  publisher-creates (Ok it) code out step is named none = subst (λ (id : ℕ). CreatesPublisher old new given (Ok id)) (sym (ap (λ (k : Key). k.port) named)) step
-  publisher-creates (Err error) code out step is named none = let high = publisher-code-high error in absurd (omega (arith, high, is, none))
+  pub publisher-creates : (made : Result Publisher PublisherCreateError) (code : ℕ) (out : PublisherNumbers)
+      → CreatesPublisher old new given (publisher_made made)
+      → code ≡ code_of publisher_code made → IfOk made (λ it. named_publisher out ≡ publisher_key (as_publisher it))
+      → code ≡ 0 → CreatesPublisher old new given (Ok (wide out.id))
+  publisher-creates (Ok it) code out step is named none =
+      subst (λ (id : ℕ). CreatesPublisher old new given (Ok id)) (sym (ap (λ (k : Key). k.port) named)) step
+  publisher-creates (Err error) code out step is named none = let high = publisher-code-high error in
+      absurd (omega (arith, high, is, none))
 
   -- with another it is refused
-  pub publisher-refused : (made : Result Publisher PublisherCreateError) (code : ℕ) → CreatesPublisher old new given (publisher_made made)
-      → code ≡ code_of publisher_code made → 0 < code → (error : PublisherCreateError) × (code ≡ publisher_code error) × CreatesPublisher old new given (Err error)
+  pub publisher-refused : (made : Result Publisher PublisherCreateError) (code : ℕ)
+      → CreatesPublisher old new given (publisher_made made)
+      → code ≡ code_of publisher_code made → 0 < code
+      → (error : PublisherCreateError) × (code ≡ publisher_code error) × CreatesPublisher old new given (Err error)
   publisher-refused (Ok it) code step is some = absurd (omega (arith, is, some))
   publisher-refused (Err error) code step is some = (error, is, step)
 
 -- a creation in the domain that was opened is one in the domain
-pub moved : (inside old new : KeptBytes) (was given : PublisherSettings) (made : Result ℕ PublisherCreateError) → inside ≡ old → was ≡ given
+pub moved : (inside old new : KeptBytes) (was given : PublisherSettings) (made : Result ℕ PublisherCreateError)
+    → inside ≡ old → was ≡ given
     → CreatesPublisher inside new was made → CreatesPublisher old new given made
 moved inside old new was given made same settings step =
-    subst (λ (k : KeptBytes). CreatesPublisher k new given made) same (subst (λ (g : PublisherSettings). CreatesPublisher inside new g made) settings step)
+    subst (λ (k : KeptBytes). CreatesPublisher k new given made) same
+    (subst (λ (g : PublisherSettings). CreatesPublisher inside new g made) settings step)
 
 module _ (old new : KeptBytes) (given : SubscriberSettings) where
   -- what a factory says of a subscriber
   abbrev pub ToldOf : Result Subscriber SubscriberCreateError → Type 0
-  ToldOf made = (m : Messages ℕ (Unit {0})) (s : BytesState) → Shows old m s → (s' : BytesState) × Shows new m s' × MatchResult made
-      (λ it. CreateSubscriber (subscribers_answer new) s given s' None × (subscriber_id (as_subscriber it) ≡ s.next_port) × (buffer_size_of (as_subscriber it) ≡ buffer_for given))
+  ToldOf made = (m : Messages ℕ (Unit {0})) (s : BytesState) → Shows old m s
+      → (s' : BytesState) × Shows new m s' × MatchResult made
+      (λ it. CreateSubscriber (subscribers_answer new) s given s' None
+      × (subscriber_id (as_subscriber it) ≡ s.next_port) × (buffer_size_of (as_subscriber it) ≡ buffer_for given))
       (λ error. CreateSubscriber (subscribers_answer new) s given s' (Some error))
 
   -- with the code 0 it is made
-  pub subscriber-creates : (made : Result Subscriber SubscriberCreateError) (code : ℕ) (out : SubscriberNumbers) → ToldOf made → code ≡ code_of subscriber_code made
-      → IfOk made (λ it. named_subscriber out ≡ subscriber_key (as_subscriber it)) → IfOk made (λ it. out.buffer_size ≡ buffer_size_of (as_subscriber it)) → code ≡ 0 → CreatesSubscriber old new given (Ok out)
+  pub subscriber-creates : (made : Result Subscriber SubscriberCreateError) (code : ℕ) (out : SubscriberNumbers)
+      → ToldOf made → code ≡ code_of subscriber_code made
+      → IfOk made (λ it. named_subscriber out ≡ subscriber_key (as_subscriber it))
+      → IfOk made (λ it. out.buffer_size ≡ buffer_size_of (as_subscriber it)) → code ≡ 0
+      → CreatesSubscriber old new given (Ok out)
   subscriber-creates (Ok it) code out told is named buffer none = λ m s shown.
-      let step = told m s shown in (step.0, step.1, (ap (λ (k : Key). k.port) named ∙ (step.2).1, buffer ∙ (step.2).2, (step.2).0))
-  subscriber-creates (Err error) code out told is named buffer none = let high = subscriber-code-high error in absurd (omega (arith, high, is, none))
+      let step = told m s shown in
+      (step.0, step.1, (ap (λ (k : Key). k.port) named ∙ (step.2).1, buffer ∙ (step.2).2, (step.2).0))
+  subscriber-creates (Err error) code out told is named buffer none = let high = subscriber-code-high error in
+      absurd (omega (arith, high, is, none))
 
   -- with another it is refused
-  pub subscriber-refused : (made : Result Subscriber SubscriberCreateError) (code : ℕ) → ToldOf made → code ≡ code_of subscriber_code made
-      → 0 < code → (error : SubscriberCreateError) × (code ≡ subscriber_code error) × CreatesSubscriber old new given (Err error)
+  pub subscriber-refused : (made : Result Subscriber SubscriberCreateError) (code : ℕ) → ToldOf made
+      → code ≡ code_of subscriber_code made
+      → 0 < code → (error : SubscriberCreateError) × (code ≡ subscriber_code error)
+      × CreatesSubscriber old new given (Err error)
   subscriber-refused (Ok it) code told is some = absurd (omega (arith, is, some))
   subscriber-refused (Err error) code told is some = (error, is, told)
 
 -- what a factory says of the domain that was opened it says of the domain
-pub told-moved : (inside old new : KeptBytes) (was given : SubscriberSettings) (made : Result Subscriber SubscriberCreateError) → inside ≡ old → was ≡ given
+pub told-moved : (inside old new : KeptBytes) (was given : SubscriberSettings)
+    (made : Result Subscriber SubscriberCreateError) → inside ≡ old → was ≡ given
     → ToldOf inside new was made → ToldOf old new given made
 told-moved inside old new was given made same settings told =
-    subst (λ (k : KeptBytes). ToldOf k new given made) same (subst (λ (g : SubscriberSettings). ToldOf inside new g made) settings told)
+    subst (λ (k : KeptBytes). ToldOf k new given made) same
+    (subst (λ (g : SubscriberSettings). ToldOf inside new g made) settings told)

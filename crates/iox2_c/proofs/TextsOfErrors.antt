@@ -1,6 +1,7 @@
 -- The text that an error's code numbers is the error's.
 use Rattle.std.proofs.Common.{◌≡◌, ℕ, List, ap, refl, ◌∙◌}
-use Rattle.iox2_machine.specs.ErrorTexts.{connection_failure_text, loan_error_text, publisher_create_error_text, receive_error_text, subscriber_create_error_text}
+use Rattle.iox2_machine.specs.ErrorTexts.{connection_failure_text, loan_error_text, publisher_create_error_text}
+use Rattle.iox2_machine.specs.ErrorTexts.{receive_error_text, subscriber_create_error_text}
 use Rattle.iox2_machine.specs.declared.errors.LoanError.{LoanError}
 use Rattle.iox2_machine.specs.declared.errors.LoanError.TheVariants as loan
 use Rattle.iox2_machine.specs.declared.errors.ZeroCopyCreationError.TheVariants as creation
@@ -39,7 +40,8 @@ receives : (error : ReceiveError) → text_numbered (receive_code error) ≡ rec
 receives receive.ExceedsMaxBorrows = refl
 receives (receive.ConnectionFailure (connection.FailedToEstablishConnection creation.IncompatibleBufferSize)) = refl
 receives (receive.ConnectionFailure (connection.FailedToEstablishConnection creation.OutOfMemory)) = refl
-receives (receive.ConnectionFailure (connection.FailedToEstablishConnection creation.ExpiredConnectionBufferFull)) = refl
+receives (receive.ConnectionFailure (connection.FailedToEstablishConnection creation.ExpiredConnectionBufferFull)) =
+    refl
 receives (receive.ConnectionFailure (connection.UnableToMapSendersDataSegment opening.InternalError)) = refl
 
 updates : (failure : ConnectionFailure) → text_numbered (failure_code failure) ≡ connection_failure_text failure
@@ -54,7 +56,8 @@ publishers publisher.UnableToCreateDataSegment = refl
 publishers publisher.FailedToDeployThreadsafetyPolicy = refl
 publishers publisher.UnableToCreatePortTag = refl
 
-subscribers : (error : SubscriberCreateError) → text_numbered (subscriber_code error) ≡ subscriber_create_error_text error
+subscribers : (error : SubscriberCreateError)
+    → text_numbered (subscriber_code error) ≡ subscriber_create_error_text error
 subscribers subscriber.ExceedsMaxSupportedSubscribers = refl
 subscribers subscriber.BufferSizeExceedsMaxSupportedBufferSizeOfService = refl
 subscribers subscriber.FailedToDeployThreadsafetyPolicy = refl

@@ -8,7 +8,8 @@ use Rattle.iox2_machine.specs.declared.key.Key.{Key}
 use Rattle.iox2_machine.specs.machine.Records.{PublisherSettings}
 use Rattle.iox2_pubsub.specs.declared.slice.publisher.Publisher.{Publisher}
 use Rattle.iox2_pubsub.specs.Handles.{as_publisher, max_slice_len_of, publisher_id, strategy_of}
-use Rattle.iox2_pubsub.specs.Live.{HasMark, IsLoanKey, IsNewIn, IsPublisherKey, IsReadyPublisher, IsUnblocked, Stays, publisher_port}
+use Rattle.iox2_pubsub.specs.Live.{HasMark, IsLoanKey, IsNewIn, IsPublisherKey, IsReadyPublisher, IsUnblocked, Stays}
+use Rattle.iox2_pubsub.specs.Live.{publisher_port}
 use Rattle.iox2_c.specs.Serving.{KeptBytes}
 use Rattle.iox2_c.specs.Steps.{CreatesPublisher}
 
@@ -20,7 +21,8 @@ publisher_made (Ok it) = Ok (publisher_id (as_publisher it))
 publisher_made (Err error) = Err error
 
 -- A publisher with these settings was asked for, and this came of it.
-pub record MakesPublisher (given : PublisherSettings) (old new : KeptBytes) (made : Result Publisher PublisherCreateError) : Type 0 where
+pub record MakesPublisher (given : PublisherSettings) (old new : KeptBytes)
+    (made : Result Publisher PublisherCreateError) : Type 0 where
   pub creates : CreatesPublisher old new given (publisher_made made)
   pub ready : IfOk made (λ it. IsReadyPublisher new (as_publisher it))
   pub fresh : IfOk made (λ it. IsNewIn old (publisher_port (as_publisher it)))
@@ -33,7 +35,8 @@ abbrev pub loan_made : {A : Type 0} → Result A LoanError → Result (Unit {0})
 loan_made (Ok it) = Ok tt
 loan_made (Err error) = Err error
 
--- ---- refusals, which change nothing: 2 where nothing live is named, and 7 where an earlier send of the publisher waits
+-- ---- refusals, which change nothing: 2 where nothing live is named, and 7 where an earlier send of the publisher
+-- waits
 
 module _ (domain : KeptBytes) (key : Key) where
   -- The publisher is there, and no send of it waits.
@@ -44,7 +47,8 @@ module _ (domain : KeptBytes) (key : Key) where
   -- Why a call of a publisher is refused with this code.
   abbrev pub RefusesPublisher : (code : ℕ) → Type 0
   RefusesPublisher code =
-      ((code ≡ 2) × (IsPublisherKey domain key → ⊥)) ⊎ ((code ≡ 7) × IsPublisherKey domain key × (IsUnblocked domain key → ⊥))
+      ((code ≡ 2) × (IsPublisherKey domain key → ⊥))
+      ⊎ ((code ≡ 7) × IsPublisherKey domain key × (IsUnblocked domain key → ⊥))
 
   -- The loan is out and written, as each one is that was lent by these calls.
   pub record IsOut : Type 0 where

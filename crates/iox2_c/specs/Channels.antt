@@ -1,9 +1,12 @@
--- Calls on the channels of connections: why they are refused, what they answer, and which step of the machine they made.
+-- Calls on the channels of connections: why they are refused, what they answer, and which step of the machine they
+-- made.
 use Rattle.std.specs.Prelude.{ℕ, Bool, if◌then◌else◌, ◌≡◌, ◌≤◌, ◌⊎◌}
 use Rattle.std.specs.declared.option.Option.{Option}
 use Rattle.std.specs.declared.option.Option.TheVariants.{Some}
 use Rattle.iox2_machine.specs.declared.key.Key.{Key}
-use Rattle.iox2_machine.specs.machine.ChannelCalls.{SetChannelState, connection_place, has_channel_state, has_disconnect_hint, received_closed, received_hinted, sent_closed, some_channel_has_state}
+use Rattle.iox2_machine.specs.machine.ChannelCalls.{SetChannelState, connection_place, has_channel_state}
+use Rattle.iox2_machine.specs.machine.ChannelCalls.{has_disconnect_hint, received_closed, received_hinted, sent_closed}
+use Rattle.iox2_machine.specs.machine.ChannelCalls.{some_channel_has_state}
 use Rattle.iox2_machine.specs.machine.Limits.{channel_count}
 use Rattle.iox2_machine.specs.machine.State.{Messages}
 use Rattle.iox2_domain.specs.Shows.{Shows}
@@ -19,11 +22,13 @@ use Rattle.iox2_c.specs.declared.calls.channel_changes.ReceivedChange.TheVariant
 module _ (domain : KeptBytes) (key : Key) (channel : ℕ) where
   -- Why a publisher's call on a channel is refused with this code.
   abbrev pub RefusesPublisherChannel : (code : ℕ) → Type 0
-  RefusesPublisherChannel code = ((code ≡ 2) × (IsPublisherKey domain key → ⊥)) ⊎ ((code ≡ 70) × IsPublisherKey domain key × (channel_count domain.config ≤ channel))
+  RefusesPublisherChannel code = ((code ≡ 2) × (IsPublisherKey domain key → ⊥))
+      ⊎ ((code ≡ 70) × IsPublisherKey domain key × (channel_count domain.config ≤ channel))
 
   -- Why a subscriber's is.
   abbrev pub RefusesSubscriberChannel : (code : ℕ) → Type 0
-  RefusesSubscriberChannel code = ((code ≡ 2) × (IsSubscriberKey domain key → ⊥)) ⊎ ((code ≡ 70) × IsSubscriberKey domain key × (channel_count domain.config ≤ channel))
+  RefusesSubscriberChannel code = ((code ≡ 2) × (IsSubscriberKey domain key → ⊥))
+      ⊎ ((code ≡ 70) × IsSubscriberKey domain key × (channel_count domain.config ≤ channel))
 
   -- A publisher's call on a channel is answered with this code: 0 where it is there, and else why it is refused.
   abbrev pub AnswersPublisherChannel : (code : ℕ) → Type 0
@@ -46,7 +51,8 @@ module _ (domain : KeptBytes) where
 
   -- The answer says whether the channel is in the state at some connection of the subscriber with this id.
   abbrev pub TellsSomeState : (subscriber channel state answer : ℕ) → Type 0
-  TellsSomeState subscriber channel state answer = InEachState (λ s. answer ≡ as_number (some_channel_has_state s subscriber channel state))
+  TellsSomeState subscriber channel state answer =
+      InEachState (λ s. answer ≡ as_number (some_channel_has_state s subscriber channel state))
 
   -- The blocked send of the publisher with this id waits for the subscriber with that one.
   abbrev pub TellsBlocker : (publisher subscriber : ℕ) → Type 0
@@ -58,11 +64,13 @@ module _ (domain : KeptBytes) where
 
   -- The answer says whether the channel is in the state at that connection of the publisher with this id.
   abbrev pub TellsState : (publisher channel place state answer : ℕ) → Type 0
-  TellsState publisher channel place state answer = InEachState (λ s. answer ≡ as_number (has_channel_state s publisher channel place state))
+  TellsState publisher channel place state answer =
+      InEachState (λ s. answer ≡ as_number (has_channel_state s publisher channel place state))
 
   -- The answer says whether it is in the state there, and has a hint.
   abbrev pub TellsHint : (publisher channel place state answer : ℕ) → Type 0
-  TellsHint publisher channel place state answer = InEachState (λ s. answer ≡ as_number (has_disconnect_hint s publisher channel place state))
+  TellsHint publisher channel place state answer =
+      InEachState (λ s. answer ≡ as_number (has_disconnect_hint s publisher channel place state))
 
 -- ---- changes
 
@@ -71,11 +79,12 @@ module _ (old new : KeptBytes) where
   abbrev pub ChangesTo : (BytesState → BytesState) → Type 0
   ChangesTo change = (m : Messages ℕ (Unit {0})) (s : BytesState) → Shows old m s → Shows new m (change s)
 
-  -- The subscriber with this id brought the channel into the state wherever it was closed; the answer says whether it was at each
-  -- connection.
+  -- The subscriber with this id brought the channel into the state wherever it was closed; the answer says whether it
+  -- was at each connection.
   abbrev pub SetsState : (subscriber channel state answer : ℕ) → Type 0
   SetsState subscriber channel state answer =
-      (were_closed : Bool) × (answer ≡ as_number were_closed) × StepsTo old new (λ s s'. SetChannelState s subscriber channel state s' were_closed)
+      (were_closed : Bool) × (answer ≡ as_number were_closed)
+      × StepsTo old new (λ s s'. SetChannelState s subscriber channel state s' were_closed)
 
   -- The subscriber with this id closed the channel wherever it was in the state `expected`.
   abbrev pub ClosesReceived : (subscriber channel expected : ℕ) → Type 0

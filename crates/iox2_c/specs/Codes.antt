@@ -14,14 +14,21 @@ use Rattle.iox2_machine.specs.declared.degradation.DegradationAction.{Degradatio
 use Rattle.iox2_machine.specs.declared.degradation.DegradationAction.TheVariants.{DegradeAndFail, Ignore, Warn}
 use Rattle.iox2_machine.specs.machine.Records.{Fixed, Handler}
 use Rattle.iox2_machine.specs.declared.errors.LoanError.{LoanError}
-use Rattle.iox2_machine.specs.declared.errors.LoanError.TheVariants.{OutOfMemory, ExceedsMaxLoans, ExceedsMaxLoanSize, InternalFailure}
-use Rattle.iox2_machine.specs.declared.errors.ZeroCopyCreationError.TheVariants.{IncompatibleBufferSize, OutOfMemory as No_memory, ExpiredConnectionBufferFull}
+use Rattle.iox2_machine.specs.declared.errors.LoanError.TheVariants.{OutOfMemory, ExceedsMaxLoans, ExceedsMaxLoanSize}
+use Rattle.iox2_machine.specs.declared.errors.LoanError.TheVariants.{InternalFailure}
+use Rattle.iox2_machine.specs.declared.errors.ZeroCopyCreationError.TheVariants.{IncompatibleBufferSize}
+use Rattle.iox2_machine.specs.declared.errors.ZeroCopyCreationError.TheVariants.{OutOfMemory as No_memory}
+use Rattle.iox2_machine.specs.declared.errors.ZeroCopyCreationError.TheVariants.{ExpiredConnectionBufferFull}
 use Rattle.iox2_machine.specs.declared.errors.ConnectionFailure.{ConnectionFailure}
-use Rattle.iox2_machine.specs.declared.errors.ConnectionFailure.TheVariants.{FailedToEstablishConnection, UnableToMapSendersDataSegment}
+use Rattle.iox2_machine.specs.declared.errors.ConnectionFailure.TheVariants.{FailedToEstablishConnection}
+use Rattle.iox2_machine.specs.declared.errors.ConnectionFailure.TheVariants.{UnableToMapSendersDataSegment}
 use Rattle.iox2_machine.specs.declared.errors.SendError.{SendError}
-use Rattle.iox2_machine.specs.declared.errors.SendError.TheVariants.{ConnectionBrokenSinceSenderNoLongerExists, ConnectionCorrupted, LoanError as Not_lent, ConnectionError, UnableToDeliver, InternalError}
+use Rattle.iox2_machine.specs.declared.errors.SendError.TheVariants.{ConnectionBrokenSinceSenderNoLongerExists}
+use Rattle.iox2_machine.specs.declared.errors.SendError.TheVariants.{ConnectionCorrupted, LoanError as Not_lent}
+use Rattle.iox2_machine.specs.declared.errors.SendError.TheVariants.{ConnectionError, UnableToDeliver, InternalError}
 use Rattle.iox2_machine.specs.declared.errors.ReceiveError.{ReceiveError}
-use Rattle.iox2_machine.specs.declared.errors.ReceiveError.TheVariants.{ExceedsMaxBorrows, ConnectionFailure as Not_connected}
+use Rattle.iox2_machine.specs.declared.errors.ReceiveError.TheVariants.{ExceedsMaxBorrows}
+use Rattle.iox2_machine.specs.declared.errors.ReceiveError.TheVariants.{ConnectionFailure as Not_connected}
 use Rattle.iox2_machine.specs.declared.errors.PublisherCreateError.{PublisherCreateError}
 use Rattle.iox2_machine.specs.declared.errors.PublisherCreateError.TheVariants as publisher
 use Rattle.iox2_machine.specs.declared.errors.SubscriberCreateError.{SubscriberCreateError}
@@ -96,7 +103,8 @@ handler_numbered n =
     else if nat_eq n 3 then Some (Fixed action.DiscardData)
     else if nat_eq n 4 then Some (Fixed action.DiscardDataAndFail) else None
 
--- What is done where memory for a connection is refused, by its number: 0 stands for nothing, and 2 for a failure of the call.
+-- What is done where memory for a connection is refused, by its number: 0 stands for nothing, and 2 for a failure of
+-- the call.
 abbrev pub degradation_numbered : ℕ → DegradationAction
 degradation_numbered n = if nat_eq n 0 then Ignore else if nat_eq n 2 then DegradeAndFail else Warn
 

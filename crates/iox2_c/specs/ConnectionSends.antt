@@ -18,26 +18,32 @@ use Rattle.iox2_c.specs.Serving.{KeptBytes, Serving, ServesBut}
 use Rattle.iox2_c.specs.Steps.{BytesState, publishers_answer}
 use Rattle.iox2_c.specs.declared.numbers.LoanNumbers.{LoanNumbers}
 
--- The code says that nothing was changed: no live loan is named, an earlier send of its publisher waits, or there is no such channel.
+-- The code says that nothing was changed: no live loan is named, an earlier send of its publisher waits, or there is no
+-- such channel.
 abbrev pub IsRefusal : (code : ℕ) → Type 0
 IsRefusal code = (code ≡ 2) ⊎ (code ≡ 7) ⊎ (code ≡ 70)
 
 -- Why a send of a loan into this channel is refused with this code.
 abbrev pub RefusesSendTo : KeptBytes → Key → (channel code : ℕ) → Type 0
 RefusesSendTo domain key channel code =
-    ((code ≡ 2) × (IsOut domain key → ⊥)) ⊎ ((code ≡ 7) × IsOut domain key × (IsUnblocked domain key → ⊥)) ⊎ ((code ≡ 70) × IsOut domain key × (channel_count domain.config ≤ channel))
+    ((code ≡ 2) × (IsOut domain key → ⊥)) ⊎ ((code ≡ 7) × IsOut domain key × (IsUnblocked domain key → ⊥))
+    ⊎ ((code ≡ 70) × IsOut domain key × (channel_count domain.config ≤ channel))
 
 -- The loan with this number was sent into that channel of the connection at that place, with this outcome or error.
-abbrev pub SendsNumberedTo : (old new : KeptBytes) → (number channel connection : ℕ) → Result SendOutcome SendError → Type 0
+abbrev pub SendsNumberedTo : (old new : KeptBytes) → (number channel connection : ℕ) → Result SendOutcome SendError
+    → Type 0
 SendsNumberedTo old new number channel connection sent =
     (m : Messages ℕ (Unit {0})) (s : BytesState) (l : Loan ℕ (Unit {0})) → Shows old m s → s.loans number ≡ Some l
-    → (s' : BytesState) × Shows new (messages_after_send m number l sent) s' × SendsToConnection (publishers_answer old) s number l channel connection sent s'
+    → (s' : BytesState) × Shows new (messages_after_send m number l sent) s'
+    × SendsToConnection (publishers_answer old) s number l channel connection sent s'
 
 -- The loan with these numbers was to be sent there: the code, how many took it, and the numbers of a send that waits.
-pub record SendToReturns (numbers : LoanNumbers) (channel connection : ℕ) (old new : Serving) (counted count : ℕ) (before after : LoanNumbers) (code : ℕ) : Type 0 where
+pub record SendToReturns (numbers : LoanNumbers) (channel connection : ℕ) (old new : Serving) (counted count : ℕ)
+    (before after : LoanNumbers) (code : ℕ) : Type 0 where
   pub never : code ≡ 1 → ⊥
   pub sent : (IsRefusal code → ⊥)
-      → (outcome : Result SendOutcome SendError) × (code ≡ sent_code outcome) × (count ≡ receivers_of counted outcome) × SendsNumberedTo old.domain new.domain (wide numbers.number) channel connection outcome
+      → (outcome : Result SendOutcome SendError) × (code ≡ sent_code outcome) × (count ≡ receivers_of counted outcome)
+      × SendsNumberedTo old.domain new.domain (wide numbers.number) channel connection outcome
   pub why : IsRefusal code → RefusesSendTo old.domain (named_loan numbers) channel code × (new ≡ old)
   pub waits : code ≡ 6 → IsBlockedKey new.domain (named_loan after) × (named_loan after ≡ named_loan numbers)
   pub spent : (IsRefusal code → ⊥) → IsLoanKey new.domain (named_loan numbers) → ⊥

@@ -10,6 +10,7 @@ use Rattle.iox2_c.specs.declared.domain_box.DomainBox.{DomainBox}
 abbrev pub with_service : DomainBox → Serving → DomainBox
 with_service box it = record box { service = Some it }
 
--- Once the borrow ends, the box has the domain that was last written through it. Where there is none the box stays as it is.
+-- Once the borrow ends, the box has the domain that was last written through it. Where there is none the box stays as
+-- it is.
 abbrev pub LendsService : MutBor DomainBox → Option (MutBor Serving) → Fml
 LendsService box lent = LendsIf domain_box.the_row service.the_row box lent (with_service box.now) box.now

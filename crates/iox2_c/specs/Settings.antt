@@ -5,7 +5,11 @@ use Rattle.iox2_machine.specs.declared.service_config.TypeVariant.TheVariants.{D
 use Rattle.iox2_machine.specs.declared.allocation.AllocationStrategy.TheVariants.{Static}
 use Rattle.iox2_machine.specs.machine.Ports.{default_publisher_settings, default_subscriber_settings}
 use Rattle.iox2_machine.specs.machine.Records.{Fixed, PublisherSettings, SubscriberSettings}
-use Rattle.iox2_c.specs.Codes.{invalid_struct_size, invalid_payload_size, invalid_payload_alignment, invalid_backpressure_strategy, invalid_backpressure_handler, invalid_degradation, invalid_allocation_strategy, invalid_initial_max_slice_len, invalid_reserved, allocation_numbered, degradation_numbered, handler_numbered, slots_numbered, strategy_numbered}
+use Rattle.iox2_c.specs.Codes.{invalid_struct_size, invalid_payload_size, invalid_payload_alignment}
+use Rattle.iox2_c.specs.Codes.{invalid_backpressure_strategy, invalid_backpressure_handler, invalid_degradation}
+use Rattle.iox2_c.specs.Codes.{invalid_allocation_strategy, invalid_initial_max_slice_len, invalid_reserved}
+use Rattle.iox2_c.specs.Codes.{allocation_numbered, degradation_numbered, handler_numbered, slots_numbered}
+use Rattle.iox2_c.specs.Codes.{strategy_numbered}
 use Rattle.iox2_c.specs.Numbers.{wide}
 use Rattle.iox2_c.specs.Serving.{KeptBytes, Serving}
 use Rattle.iox2_c.specs.declared.config.Config.{Config}
@@ -37,8 +41,8 @@ is_alignment n = (n == 1) || (n == 2) || (n == 4) || (n == 8) || (n == 16)
 abbrev pub is_aligned : (length alignment : ℕ) → Bool
 is_aligned length alignment = nat_lt 0 alignment && ((length % alignment) == 0)
 
--- The first setting of a domain that is invalid, in the order of the fields, except that the alignment comes before the size that
--- has to be a multiple of it.
+-- The first setting of a domain that is invalid, in the order of the fields, except that the alignment comes before the
+-- size that has to be a multiple of it.
 abbrev pub invalid_setting : Config → ℕ
 invalid_setting it =
     if not (it.struct_size == config_size) then invalid_struct_size
@@ -46,13 +50,14 @@ invalid_setting it =
     else if not (is_aligned it.payload_size it.payload_alignment) then invalid_payload_size
     else if not (nat_lt it.backpressure_strategy 2) then invalid_backpressure_strategy else 0
 
--- The first setting of a publisher that is invalid where payloads are aligned so, in the order of the fields. Memory that grows
--- begins with some.
+-- The first setting of a publisher that is invalid where payloads are aligned so, in the order of the fields. Memory
+-- that grows begins with some.
 abbrev pub invalid_publisher_option : (alignment : ℕ) → PublisherOptions → ℕ
 invalid_publisher_option alignment it =
     if not (it.struct_size == publisher_options_size) then invalid_struct_size
     else if not (is_aligned it.initial_max_slice_len alignment) then invalid_initial_max_slice_len
-    else if (it.initial_max_slice_len == 0) && ((it.allocation_strategy == 1) || (it.allocation_strategy == 2)) then invalid_initial_max_slice_len
+    else if (it.initial_max_slice_len == 0)
+    && ((it.allocation_strategy == 1) || (it.allocation_strategy == 2)) then invalid_initial_max_slice_len
     else if not (nat_lt it.backpressure_strategy 2) then invalid_backpressure_strategy
     else if not (nat_lt it.backpressure_handler 5) then invalid_backpressure_handler
     else if not (nat_lt it.degradation 3) then invalid_degradation
@@ -96,7 +101,8 @@ settings_in kept = record (kept.config) { publisher_allocation_strategy = Static
 
 -- The settings of a publisher that is made without options: those of the domain, for messages as long as it says.
 abbrev pub plain_publisher_settings : Serving → PublisherSettings
-plain_publisher_settings it = record (default_publisher_settings (it.domain).config) { initial_max_slice_len = it.payload_size }
+plain_publisher_settings it =
+    record (default_publisher_settings (it.domain).config) { initial_max_slice_len = it.payload_size }
 
 -- The settings of a subscriber that is made without options: those of the domain.
 abbrev pub plain_subscriber_settings : Serving → SubscriberSettings
@@ -115,11 +121,13 @@ unasked_settings config it = record (default_publisher_settings config) {
 
 -- The settings of a publisher with these options.
 abbrev pub settings_of_options : ServiceConfig → PublisherOptions → PublisherSettings
-settings_of_options config it = record (unasked_settings config it) { asked_slots = slots_numbered it.preallocated_samples }
+settings_of_options config it =
+    record (unasked_settings config it) { asked_slots = slots_numbered it.preallocated_samples }
 
 -- The settings of a subscriber with these options.
 abbrev pub subscriber_settings : SubscriberOptions → SubscriberSettings
-subscriber_settings it = record { buffer_size = it.buffer_size; degradation_handler = Fixed (degradation_numbered it.degradation) }
+subscriber_settings it =
+    record { buffer_size = it.buffer_size; degradation_handler = Fixed (degradation_numbered it.degradation) }
 
 -- The numbers of a publisher say what its settings do of its messages' length and of its strategy.
 pub record ReadsSettings (it : PublisherNumbers) (given : PublisherSettings) : Type 0 where

@@ -1,6 +1,7 @@
 -- The texts of codes and of warnings' kinds, by their numbers. An error's is the one that is printed.
 use Rattle.std.specs.Prelude.{ℕ, List, [], ◌∷◌, ◌++◌, ◌/◌, ◌≡◌, codes, if◌then◌else◌, nat_eq}
-use Rattle.iox2_machine.specs.ErrorTexts.{connection_failure_text, loan_error_text, publisher_create_error_text, receive_error_text, send_error_text, subscriber_create_error_text}
+use Rattle.iox2_machine.specs.ErrorTexts.{connection_failure_text, loan_error_text, publisher_create_error_text}
+use Rattle.iox2_machine.specs.ErrorTexts.{receive_error_text, send_error_text, subscriber_create_error_text}
 use Rattle.iox2_machine.specs.declared.errors.LoanError.{LoanError}
 use Rattle.iox2_machine.specs.declared.errors.LoanError.TheVariants as loan
 use Rattle.iox2_machine.specs.declared.errors.ZeroCopyCreationError.TheVariants as creation
@@ -49,27 +50,37 @@ send_text n =
     else if nat_eq n 21 then send_error_text send.ConnectionCorrupted
     else if nat_eq n 22 then send_error_text send.UnableToDeliver
     else if nat_eq n 23 then send_error_text send.InternalError
-    else if nat_eq n 24 then send_error_text (send.ConnectionError (connection.FailedToEstablishConnection creation.IncompatibleBufferSize))
-    else if nat_eq n 25 then send_error_text (send.ConnectionError (connection.FailedToEstablishConnection creation.OutOfMemory))
-    else if nat_eq n 26 then send_error_text (send.ConnectionError (connection.FailedToEstablishConnection creation.ExpiredConnectionBufferFull))
-    else if nat_eq n 27 then send_error_text (send.ConnectionError (connection.UnableToMapSendersDataSegment opening.InternalError)) else unknown_text
+    else if nat_eq n 24 then send_error_text
+    (send.ConnectionError (connection.FailedToEstablishConnection creation.IncompatibleBufferSize))
+    else if nat_eq n 25 then send_error_text
+    (send.ConnectionError (connection.FailedToEstablishConnection creation.OutOfMemory))
+    else if nat_eq n 26 then send_error_text
+    (send.ConnectionError (connection.FailedToEstablishConnection creation.ExpiredConnectionBufferFull))
+    else if nat_eq n 27 then send_error_text
+    (send.ConnectionError (connection.UnableToMapSendersDataSegment opening.InternalError)) else unknown_text
 
 -- A receive's error.
 abbrev pub receive_text : ℕ → List ℕ
 receive_text n =
     if nat_eq n 30 then receive_error_text receive.ExceedsMaxBorrows
-    else if nat_eq n 34 then receive_error_text (receive.ConnectionFailure (connection.FailedToEstablishConnection creation.IncompatibleBufferSize))
-    else if nat_eq n 35 then receive_error_text (receive.ConnectionFailure (connection.FailedToEstablishConnection creation.OutOfMemory))
-    else if nat_eq n 36 then receive_error_text (receive.ConnectionFailure (connection.FailedToEstablishConnection creation.ExpiredConnectionBufferFull))
-    else if nat_eq n 37 then receive_error_text (receive.ConnectionFailure (connection.UnableToMapSendersDataSegment opening.InternalError)) else unknown_text
+    else if nat_eq n 34 then receive_error_text
+    (receive.ConnectionFailure (connection.FailedToEstablishConnection creation.IncompatibleBufferSize))
+    else if nat_eq n 35 then receive_error_text
+    (receive.ConnectionFailure (connection.FailedToEstablishConnection creation.OutOfMemory))
+    else if nat_eq n 36 then receive_error_text
+    (receive.ConnectionFailure (connection.FailedToEstablishConnection creation.ExpiredConnectionBufferFull))
+    else if nat_eq n 37 then receive_error_text
+    (receive.ConnectionFailure (connection.UnableToMapSendersDataSegment opening.InternalError)) else unknown_text
 
 -- An update's error.
 abbrev pub failure_text : ℕ → List ℕ
 failure_text n =
     if nat_eq n 44 then connection_failure_text (connection.FailedToEstablishConnection creation.IncompatibleBufferSize)
     else if nat_eq n 45 then connection_failure_text (connection.FailedToEstablishConnection creation.OutOfMemory)
-    else if nat_eq n 46 then connection_failure_text (connection.FailedToEstablishConnection creation.ExpiredConnectionBufferFull)
-    else if nat_eq n 47 then connection_failure_text (connection.UnableToMapSendersDataSegment opening.InternalError) else unknown_text
+    else if nat_eq n 46 then connection_failure_text
+    (connection.FailedToEstablishConnection creation.ExpiredConnectionBufferFull)
+    else if nat_eq n 47 then connection_failure_text
+    (connection.UnableToMapSendersDataSegment opening.InternalError) else unknown_text
 
 -- A publisher's refusal.
 abbrev pub publisher_text : ℕ → List ℕ
@@ -96,16 +107,19 @@ channel_text n =
 -- An invalid setting.
 abbrev pub setting_text : ℕ → List ℕ
 setting_text n =
-    if nat_eq n 80 then codes "invalid struct_size: fill the struct with its function in the header of this library's version"
+    if nat_eq n 80 then codes
+    "invalid struct_size: fill the struct with its function in the header of this library's version"
     else if nat_eq n 81 then codes "invalid payload_size: it must be a multiple of payload_alignment"
     else if nat_eq n 82 then codes "invalid payload_alignment: it must be 1, 2, 4, 8 or 16"
     else if nat_eq n 83 then codes "invalid backpressure_strategy: it must be one of iox2ps_backpressure_strategy_e"
     else if nat_eq n 84 then codes "invalid backpressure_handler: it must be one of iox2ps_backpressure_handler_e"
     else if nat_eq n 85 then codes "invalid degradation: it must be one of iox2ps_degradation_e"
     else if nat_eq n 86 then codes "invalid allocation_strategy: it must be one of iox2ps_allocation_strategy_e"
-    else if nat_eq n 87 then codes "invalid initial_max_slice_len: it must be a multiple of payload_alignment, and not 0 if memory may grow"
+    else if nat_eq n 87 then codes
+    "invalid initial_max_slice_len: it must be a multiple of payload_alignment, and not 0 if memory may grow"
     else if nat_eq n 88 then codes "invalid reserved_: it must be 0"
-    else if nat_eq n 89 then codes "the worst case of slots is too large: lower the limits in the settings, or the number of loans" else unknown_text
+    else if nat_eq n 89 then codes
+    "the worst case of slots is too large: lower the limits in the settings, or the number of loans" else unknown_text
 
 -- A warning's kind.
 abbrev pub warning_text : ℕ → List ℕ
@@ -145,6 +159,9 @@ pub record IsTextOfErrors (code : ℕ) (text : List ℕ) : Type 0 where
   pub loan : (error : LoanError) → code ≡ loan_code error → text ≡ ended (loan_error_text error)
   pub send : (error : SendError) → code ≡ send_code error → text ≡ ended (text_of_send_error error)
   pub receive : (error : ReceiveError) → code ≡ receive_code error → text ≡ ended (receive_error_text error)
-  pub update : (failure : ConnectionFailure) → code ≡ failure_code failure → text ≡ ended (connection_failure_text failure)
-  pub publisher : (error : PublisherCreateError) → code ≡ publisher_code error → text ≡ ended (publisher_create_error_text error)
-  pub subscriber : (error : SubscriberCreateError) → code ≡ subscriber_code error → text ≡ ended (subscriber_create_error_text error)
+  pub update : (failure : ConnectionFailure) → code ≡ failure_code failure
+      → text ≡ ended (connection_failure_text failure)
+  pub publisher : (error : PublisherCreateError) → code ≡ publisher_code error
+      → text ≡ ended (publisher_create_error_text error)
+  pub subscriber : (error : SubscriberCreateError) → code ≡ subscriber_code error
+      → text ≡ ended (subscriber_create_error_text error)

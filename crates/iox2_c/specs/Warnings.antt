@@ -1,7 +1,9 @@
 -- What C reads of a warning.
 use Rattle.std.specs.Prelude.{ℕ, ◌≡◌}
 use Rattle.iox2_machine.specs.declared.warning.Warning.{Warning}
-use Rattle.iox2_machine.specs.declared.warning.Warning.TheVariants.{ConnectionNotMade, ExpiredBufferRaised, ExpiredDataDiscarded, PublisherPartlyConnected, SubscriberPartlyConnected}
+use Rattle.iox2_machine.specs.declared.warning.Warning.TheVariants.{ConnectionNotMade, ExpiredBufferRaised}
+use Rattle.iox2_machine.specs.declared.warning.Warning.TheVariants.{ExpiredDataDiscarded, PublisherPartlyConnected}
+use Rattle.iox2_machine.specs.declared.warning.Warning.TheVariants.{SubscriberPartlyConnected}
 use Rattle.iox2_c.specs.Codes.{failure_code}
 use Rattle.iox2_c.specs.Numbers.{wide}
 use Rattle.iox2_c.specs.declared.warning.WarningNumbers.{WarningNumbers}

@@ -11,7 +11,8 @@ use Rattle.iox2_commands.specs.declared.reply.Reply.{Reply}
 use Rattle.iox2_commands.proofs.Order.{receives_in_order}
 use Rattle.iox2_commands.proofs.ReadRuns.{samples_name_their_publisher, reads_give_what_was_sent}
 
-pub is_faithful : {T U : Type 0} (environment : Environment) (defaults : Defaults T U) (m m' : Messages T U) (s s' : State T U)
+pub is_faithful : {T U : Type 0} (environment : Environment) (defaults : Defaults T U) (m m' : Messages T U)
+    (s s' : State T U)
     (commands : List (Command T U)) (replies : List (Reply T U)) (events : List (Event T U))
     → IsWellFormed s → Run environment defaults m s commands replies events m' s' → IsFaithful commands replies events
 is_faithful environment defaults m m' s s' commands replies events w run = record {

@@ -1,5 +1,6 @@
 -- What was sent and what was received so far, against what waits in a state of a run.
-use Rattle.std.proofs.Common.{◌≡◌, ℕ, ◌≤◌, ◌<◌, true, false, List, [], ◌∷◌, ◌++◌, refl, sym, ap, subst, ◌∙◌, arith, ◌⊎◌, inl, ⊎_elim, None, Some}
+use Rattle.std.proofs.Common.{◌≡◌, ℕ, ◌≤◌, ◌<◌, true, false, List, [], ◌∷◌, ◌++◌, refl, sym, ap, subst, ◌∙◌, arith, ◌⊎◌}
+use Rattle.std.proofs.Common.{inl, ⊎_elim, None, Some}
 use Rattle.std.proofs.lemmas.Option.{none-some, same_Some}
 use Rattle.iox2_machine.specs.machine.Numbers.{contains, IsOnce}
 use Rattle.iox2_machine.specs.machine.Mailbox.{Mailbox}
@@ -8,18 +9,21 @@ use Rattle.iox2_machine.specs.machine.State.{State, is_open}
 use Rattle.iox2_machine.specs.machine.WellFormed.{LeadsTo}
 use Rattle.iox2_laws.proofs.NumberLemmas.{absent_from}
 use Rattle.iox2_commands.specs.Runs.{IsSubsequence}
-use Rattle.iox2_commands.proofs.Subsequences.{IsSubsequence-nil, IsSubsequence-refl, IsSubsequence-trans, IsSubsequence-behind, nil_part, nil_front}
+use Rattle.iox2_commands.proofs.Subsequences.{IsSubsequence-nil, IsSubsequence-refl, IsSubsequence-trans}
+use Rattle.iox2_commands.proofs.Subsequences.{IsSubsequence-behind, nil_part, nil_front}
 
 module _ {T U : Type 0} where
   -- A blocked send's message was sent last, and those that it hasn't reached had only what was sent before.
-  pub record BlockedInOrder (p0 : ℕ) (out : ℕ → List ℕ) (got : ℕ → ℕ → List ℕ) (s : State T U) (p : ℕ) (b : BlockedSend) : Type 0 where
+  pub record BlockedInOrder (p0 : ℕ) (out : ℕ → List ℕ) (got : ℕ → ℕ → List ℕ) (s : State T U) (p : ℕ)
+      (b : BlockedSend) : Type 0 where
     pub before : List ℕ
     pub last : out p ≡ before ++ b.message ∷ []
     pub unserved : (q : ℕ) → p0 ≤ q → LeadsTo b.ends q → IsSubsequence (got p q ++ (s.mailboxes p q).waiting) before
 
   -- In a run that began with the counters at p0 and n0, each publisher p sent `out p`, and each subscriber q received
-  -- `got p q` from it. What was received, and behind it what waits, is a part of what was sent; old ports do nothing; the
-  -- history is a part of what was sent; and an open subscriber to whom a publisher has no end received nothing from it.
+  -- `got p q` from it. What was received, and behind it what waits, is a part of what was sent; old ports do nothing;
+  -- the history is a part of what was sent; and an open subscriber to whom a publisher has no end received nothing from
+  -- it.
   pub record Ordered (p0 n0 : ℕ) (out : ℕ → List ℕ) (got : ℕ → ℕ → List ℕ) (s : State T U) : Type 0 where
     pub ports : p0 ≤ s.next_port
     pub numbers : n0 ≤ s.next_message
@@ -27,13 +31,15 @@ module _ {T U : Type 0} where
     pub order : (p q : ℕ) → p0 ≤ q → IsSubsequence (got p q ++ (s.mailboxes p q).waiting) (out p)
     pub silent : (p q : ℕ) → q < p0 → got p q ≡ []
     pub history : (p : ℕ) (x : Publisher) → p0 ≤ p → s.publishers p ≡ Some x → IsSubsequence x.history (out p)
-    pub unconnected : (p q : ℕ) (x : Publisher) → p0 ≤ p → p0 ≤ q → s.publishers p ≡ Some x → is_open s q ≡ true → (LeadsTo x.ends q → ⊥) → got p q ≡ []
+    pub unconnected : (p q : ℕ) (x : Publisher) → p0 ≤ p → p0 ≤ q → s.publishers p ≡ Some x → is_open s q ≡ true
+        → (LeadsTo x.ends q → ⊥) → got p q ≡ []
     pub unmade : (p : ℕ) → s.next_port ≤ p → out p ≡ []
     pub unmade_receiver : (p q : ℕ) → s.next_port ≤ q → got p q ≡ []
     pub once : (p : ℕ) → IsOnce (out p)
     pub unsent : (p n : ℕ) (l : Loan T U) → s.loans n ≡ Some l → contains (out p) n ≡ false
     pub below : (p n : ℕ) → contains (out p) n ≡ true → n < s.next_message
-    pub blocked : (p : ℕ) (x : Publisher) (b : BlockedSend) → p0 ≤ p → s.publishers p ≡ Some x → x.blocked ≡ Some b → BlockedInOrder p0 out got s p b
+    pub blocked : (p : ℕ) (x : Publisher) (b : BlockedSend) → p0 ≤ p → s.publishers p ≡ Some x → x.blocked ≡ Some b
+        → BlockedInOrder p0 out got s p b
 
   -- ---- steps in which nothing is sent or received
 
@@ -63,7 +69,8 @@ module _ {T U : Type 0} where
   WasPublisher s s' p x' = ((x : Publisher) × (s.publishers p ≡ Some x) × SamePublisher s' x x') ⊎ NewPublisher s p x'
 
   abbrev pub WasLoan : (p0 : ℕ) → State T U → (n : ℕ) → Loan T U → Type 0
-  WasLoan p0 s n l' = ((l : Loan T U) × (s.loans n ≡ Some l) × (l.publisher ≡ l'.publisher)) ⊎ ((s.next_message ≤ n) × (p0 ≤ l'.publisher))
+  WasLoan p0 s n l' = ((l : Loan T U) × (s.loans n ≡ Some l) × (l.publisher ≡ l'.publisher))
+      ⊎ ((s.next_message ≤ n) × (p0 ≤ l'.publisher))
 
   abbrev pub WasOpen : State T U → (q : ℕ) → Type 0
   WasOpen s q = (is_open s q ≡ true) ⊎ (s.next_port ≤ q)
@@ -80,13 +87,17 @@ module _ {T U : Type 0} where
     pub subscribers : (q : ℕ) → is_open s' q ≡ true → WasOpen s q
     pub mailboxes : (p q : ℕ) → p0 ≤ q → Waited p0 s p q (s'.mailboxes p q)
 
-  module _ (p0 n0 : ℕ) (out : ℕ → List ℕ) (got : ℕ → ℕ → List ℕ) (s s' : State T U) (w : Ordered p0 n0 out got s) (k : Quiet p0 s s') where
-    still_in_order : (p q : ℕ) → p0 ≤ q → Waited p0 s p q (s'.mailboxes p q) → IsSubsequence (got p q ++ (s'.mailboxes p q).waiting) (out p)
+  module _ (p0 n0 : ℕ) (out : ℕ → List ℕ) (got : ℕ → ℕ → List ℕ) (s s' : State T U) (w : Ordered p0 n0 out got s)
+      (k : Quiet p0 s s') where
+    still_in_order : (p q : ℕ) → p0 ≤ q → Waited p0 s p q (s'.mailboxes p q)
+        → IsSubsequence (got p q ++ (s'.mailboxes p q).waiting) (out p)
     still_in_order p q new waited =
         ⊎_elim
-        (λ fewer. IsSubsequence-behind (got p q) (s'.mailboxes p q).waiting (s.mailboxes p q).waiting (out p) fewer (w.order p q new))
+        (λ fewer. IsSubsequence-behind (got p q) (s'.mailboxes p q).waiting (s.mailboxes p q).waiting (out p) fewer
+        (w.order p q new))
         (λ (from : FromHistory p0 s p q (s'.mailboxes p q).waiting).
-        let nothing : got p q ≡ [] = w.unconnected p q from.publisher from.is_new new from.present from.opened from.no_end in
+        let nothing : got p q ≡ [] =
+        w.unconnected p q from.publisher from.is_new new from.present from.opened from.no_end in
         subst (λ g. IsSubsequence (g ++ (s'.mailboxes p q).waiting) (out p)) (sym nothing)
         (IsSubsequence-trans from.tail (w.history p from.publisher from.is_new from.present)))
         waited
@@ -96,7 +107,8 @@ module _ {T U : Type 0} where
         ⊎_elim
         (λ (old : (x : Publisher) × (s.publishers p ≡ Some x) × SamePublisher s' x x').
         subst (λ h. IsSubsequence h (out p)) (sym (old.2).history) (w.history p old.0 new old.1))
-        (λ (fresh : NewPublisher s p x'). subst (λ h. IsSubsequence h (out p)) (sym fresh.history) (IsSubsequence-nil (out p)))
+        (λ (fresh : NewPublisher s p x').
+        subst (λ h. IsSubsequence h (out p)) (sym fresh.history) (IsSubsequence-nil (out p)))
         was
 
     -- a publisher that wasn't there had nothing that could be received
@@ -105,7 +117,8 @@ module _ {T U : Type 0} where
         nil_front (got p q) (s.mailboxes p q).waiting
         (nil_part _ (subst (IsSubsequence (got p q ++ (s.mailboxes p q).waiting)) (w.unmade p above) (w.order p q new)))
 
-    still_unconnected : (p q : ℕ) (x' : Publisher) → p0 ≤ p → p0 ≤ q → WasPublisher s s' p x' → is_open s' q ≡ true → (LeadsTo x'.ends q → ⊥) → got p q ≡ []
+    still_unconnected : (p q : ℕ) (x' : Publisher) → p0 ≤ p → p0 ≤ q → WasPublisher s s' p x' → is_open s' q ≡ true
+        → (LeadsTo x'.ends q → ⊥) → got p q ≡ []
     still_unconnected p q x' new new_q was opened no_end =
         ⊎_elim
         (λ (old : (x : Publisher) × (s.publishers p ≡ Some x) × SamePublisher s' x x').
@@ -116,7 +129,8 @@ module _ {T U : Type 0} where
         (λ (fresh : NewPublisher s p x'). nothing_from_new p q fresh.above new_q)
         was
 
-    still_blocked : (p : ℕ) (x' : Publisher) (b : BlockedSend) → p0 ≤ p → WasPublisher s s' p x' → x'.blocked ≡ Some b → BlockedInOrder p0 out got s' p b
+    still_blocked : (p : ℕ) (x' : Publisher) (b : BlockedSend) → p0 ≤ p → WasPublisher s s' p x' → x'.blocked ≡ Some b
+        → BlockedInOrder p0 out got s' p b
     still_blocked p x' b new was e =
         ⊎_elim
         (λ (old : (x : Publisher) × (s.publishers p ≡ Some x) × SamePublisher s' x x').
@@ -126,7 +140,8 @@ module _ {T U : Type 0} where
           before = v.before;
           last = v.last;
           unserved = λ q new_q l. ⊎_elim
-              (λ fewer. IsSubsequence-behind (got p q) (s'.mailboxes p q).waiting (s.mailboxes p q).waiting v.before fewer (v.unserved q new_q l))
+              (λ fewer. IsSubsequence-behind (got p q) (s'.mailboxes p q).waiting
+              (s.mailboxes p q).waiting v.before fewer (v.unserved q new_q l))
               (λ (from : FromHistory p0 s p q (s'.mailboxes p q).waiting).
               let same : from.publisher ≡ old.0 = same_Some from.publisher old.0 (sym from.present ∙ old.1) in
               absurd (none-some b (sym from.unblocked ∙ ap (λ (x : Publisher). x.blocked) same ∙ was_blocked)))
@@ -141,7 +156,8 @@ module _ {T U : Type 0} where
       ports = omega (arith, w.ports, k.next_port);
       numbers = omega (arith, w.numbers, k.next_message);
       loans = λ n l e high. ⊎_elim
-          (λ (old : (l₀ : Loan T U) × (s.loans n ≡ Some l₀) × (l₀.publisher ≡ l.publisher)). subst (λ i. p0 ≤ i) old.2 (w.loans n old.0 old.1 high))
+          (λ (old : (l₀ : Loan T U) × (s.loans n ≡ Some l₀) × (l₀.publisher ≡ l.publisher)).
+          subst (λ i. p0 ≤ i) old.2 (w.loans n old.0 old.1 high))
           (λ new. new.1) (k.loans n l e);
       order = λ p q new. still_in_order p q new (k.mailboxes p q new);
       silent = w.silent;
@@ -167,15 +183,25 @@ module _ {T U : Type 0} where
   same_publisher s s' p x e = inl (x, e, record { history = refl; blocked = λ b f. f; ends = λ q _ l. l })
 
   -- A publisher that changes neither its history nor its blocked send nor its ends.
-  pub alike_publisher : (s s' : State T U) (p : ℕ) (x x' : Publisher) → s.publishers p ≡ Some x → x'.history ≡ x.history → x'.blocked ≡ x.blocked
+  pub alike_publisher : (s s' : State T U) (p : ℕ) (x x' : Publisher) → s.publishers p ≡ Some x → x'.history ≡ x.history
+      → x'.blocked ≡ x.blocked
       → x'.ends ≡ x.ends → WasPublisher s s' p x'
   alike_publisher s s' p x x' e history blocked ends =
-      inl (x, e, record { history = history; blocked = λ b f. sym blocked ∙ f; ends = λ q _ l. subst (λ v. LeadsTo v q) (sym ends) l })
+      inl (
+        x,
+        e,
+        record {
+          history = history;
+          blocked = λ b f. sym blocked ∙ f;
+          ends = λ q _ l. subst (λ v. LeadsTo v q) (sym ends) l;
+        },
+      )
 
   -- A loan that stays as it was.
   pub same_loan : (p0 : ℕ) (s : State T U) (n : ℕ) (l : Loan T U) → s.loans n ≡ Some l → WasLoan p0 s n l
   same_loan p0 s n l e = inl (l, e, refl)
 
   -- A mailbox in which the same waits.
-  pub same_waiting : (p0 : ℕ) (s : State T U) (p q : ℕ) (box : Mailbox) → box.waiting ≡ (s.mailboxes p q).waiting → Waited p0 s p q box
+  pub same_waiting : (p0 : ℕ) (s : State T U) (p q : ℕ) (box : Mailbox) → box.waiting ≡ (s.mailboxes p q).waiting
+      → Waited p0 s p q box
   same_waiting p0 s p q box e = inl (subst (IsSubsequence box.waiting) e (IsSubsequence-refl box.waiting))

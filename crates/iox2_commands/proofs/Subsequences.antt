@@ -1,5 +1,6 @@
 -- Lists that are a part of another, in the same order.
-use Rattle.std.proofs.Common.{◌≡◌, ℕ, zero, suc, ◌-◌, true, List, [], ◌∷◌, ◌++◌, drop, length, refl, sym, subst, ◌∙◌, eqb, ⊎_elim}
+use Rattle.std.proofs.Common.{◌≡◌, ℕ, zero, suc, ◌-◌, true, List, [], ◌∷◌, ◌++◌, drop, length, refl, sym, subst, ◌∙◌}
+use Rattle.std.proofs.Common.{eqb, ⊎_elim}
 use Rattle.std.proofs.lemmas.Bool.{true≢false, or_cases, or_left, or_right}
 use Rattle.std.proofs.lemmas.List.{append_assoc}
 use Rattle.iox2_machine.specs.machine.Numbers.{contains, last_n, IsOnce}
@@ -28,7 +29,8 @@ IsSubsequence-trans (Left_out a) (Taken b) = Left_out (IsSubsequence-trans a b)
 IsSubsequence-trans (Taken a) (Taken b) = Taken (IsSubsequence-trans a b)
 
 -- parts of two lists, joined, are a part of the two joined
-pub IsSubsequence-append : {ns ms : List ℕ} → IsSubsequence ns ms → (ks ls : List ℕ) → IsSubsequence ks ls → IsSubsequence (ns ++ ks) (ms ++ ls)
+pub IsSubsequence-append : {ns ms : List ℕ} → IsSubsequence ns ms → (ks ls : List ℕ) → IsSubsequence ks ls
+    → IsSubsequence (ns ++ ks) (ms ++ ls)
 IsSubsequence-append Empty ks ls b = b
 IsSubsequence-append (Left_out a) ks ls b = Left_out (IsSubsequence-append a ks ls b)
 IsSubsequence-append (Taken a) ks ls b = Taken (IsSubsequence-append a ks ls b)
@@ -57,11 +59,14 @@ pub IsSubsequence-more : {ns ms : List ℕ} → IsSubsequence ns ms → (n : ℕ
 IsSubsequence-more {ns} {ms} a n = IsSubsequence-trans a (IsSubsequence-front ms (n ∷ []))
 
 -- fewer behind the same front
-pub IsSubsequence-behind : (got ks ls ms : List ℕ) → IsSubsequence ks ls → IsSubsequence (got ++ ls) ms → IsSubsequence (got ++ ks) ms
-IsSubsequence-behind got ks ls ms fewer h = IsSubsequence-trans (IsSubsequence-append (IsSubsequence-refl got) ks ls fewer) h
+pub IsSubsequence-behind : (got ks ls ms : List ℕ) → IsSubsequence ks ls → IsSubsequence (got ++ ls) ms
+    → IsSubsequence (got ++ ks) ms
+IsSubsequence-behind got ks ls ms fewer h =
+    IsSubsequence-trans (IsSubsequence-append (IsSubsequence-refl got) ks ls fewer) h
 
 -- the first of the end becomes the last of the front
-pub IsSubsequence-moved : (got ns ms : List ℕ) (n : ℕ) → IsSubsequence (got ++ n ∷ ns) ms → IsSubsequence ((got ++ n ∷ []) ++ ns) ms
+pub IsSubsequence-moved : (got ns ms : List ℕ) (n : ℕ) → IsSubsequence (got ++ n ∷ ns) ms
+    → IsSubsequence ((got ++ n ∷ []) ++ ns) ms
 IsSubsequence-moved got ns ms n h = subst (λ v. IsSubsequence v ms) (sym (append_assoc got (n ∷ []) ns)) h
 
 -- only nothing is a part of nothing
@@ -79,10 +84,12 @@ pub contains_part : {ns ms : List ℕ} → IsSubsequence ns ms → (n : ℕ) →
 contains_part Empty n h = h
 contains_part (Left_out {n = m} {ms = ms} a) n h = or_right (eqb m n) (contains ms n) (contains_part a n h)
 contains_part (Taken {n = m} {ns = ns} {ms = ms} a) n h =
-    ⊎_elim (λ e. or_left (eqb m n) (contains ms n) e) (λ r. or_right (eqb m n) (contains ms n) (contains_part a n r)) (or_cases (eqb m n) (contains ns n) h)
+    ⊎_elim (λ e. or_left (eqb m n) (contains ms n) e) (λ r. or_right (eqb m n) (contains ms n) (contains_part a n r))
+    (or_cases (eqb m n) (contains ns n) h)
 
 -- a part of different numbers has different numbers
 pub once_part : {ns ms : List ℕ} → IsSubsequence ns ms → IsOnce ms → IsOnce ns
 once_part Empty o = tt
 once_part (Left_out a) o = once_part a o.1
-once_part (Taken {n = m} {ns = ns} {ms = ms} a) o = (false_from (contains ns m) (λ e. true≢false (sym (contains_part a m e) ∙ o.0)), once_part a o.1)
+once_part (Taken {n = m} {ns = ns} {ms = ms} a) o =
+    (false_from (contains ns m) (λ e. true≢false (sym (contains_part a m e) ∙ o.0)), once_part a o.1)

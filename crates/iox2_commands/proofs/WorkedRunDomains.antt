@@ -27,12 +27,15 @@ domain publishers subscribers buffer borrows history expired overflow = record {
 }
 
 -- A service for slices, with these limits.
-abbrev pub slice_domain : (publishers subscribers buffer borrows history expired : ℕ) → (overflow : Bool) → ServiceConfig
+abbrev pub slice_domain : (publishers subscribers buffer borrows history expired : ℕ) → (overflow : Bool)
+    → ServiceConfig
 slice_domain publishers subscribers buffer borrows history expired overflow =
     record (domain publishers subscribers buffer borrows history expired overflow) { variant = Dynamic }
 
 infixr 2 ◌▸◌
 -- A command of a run whose default values are 0, with its outcome and its step, and the commands behind it.
-pub ◌▸◌ : {O : Type 0} {IsStep : ℕ → ℕ → O → Type 0} {Replies Tells Rest : O → Type 0} (first : (o : O) × IsStep 0 0 o × Replies o × Tells o) → Rest first.0
-    → (default_value : ℕ) × (default_header : ℕ) × (default_value ≡ 0) × (default_header ≡ 0) × (o : O) × IsStep default_value default_header o × Replies o × Tells o × Rest o
+pub ◌▸◌ : {O : Type 0} {IsStep : ℕ → ℕ → O → Type 0} {Replies Tells Rest : O → Type 0}
+    (first : (o : O) × IsStep 0 0 o × Replies o × Tells o) → Rest first.0
+    → (default_value : ℕ) × (default_header : ℕ) × (default_value ≡ 0) × (default_header ≡ 0) × (o : O)
+    × IsStep default_value default_header o × Replies o × Tells o × Rest o
 first ▸ rest = (0, 0, refl, refl, first.0, first.1, first.2, first.3, rest)

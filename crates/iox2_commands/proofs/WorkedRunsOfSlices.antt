@@ -13,9 +13,11 @@ use Rattle.iox2_commands.specs.Outcomes.{Event}
 use Rattle.iox2_machine.specs.machine.Environments.{ample_memory}
 use Rattle.iox2_commands.specs.NewPublishers.{publisher_with}
 use Rattle.iox2_commands.specs.Runs.{Run, only_defaults}
-use Rattle.iox2_commands.specs.declared.command.Command.TheVariants.{CreatePublisher, CreateSubscriber, LoanSlice, WriteAll, Send}
+use Rattle.iox2_commands.specs.declared.command.Command.TheVariants.{CreatePublisher, CreateSubscriber, LoanSlice}
+use Rattle.iox2_commands.specs.declared.command.Command.TheVariants.{WriteAll, Send}
 use Rattle.iox2_commands.specs.declared.command.Command.TheVariants.{Receive, Read}
-use Rattle.iox2_commands.specs.declared.reply.Reply.TheVariants.{Done, Skipped, PublisherMade, SubscriberMade, Loaned, LoanRefused, Delivered, Sample}
+use Rattle.iox2_commands.specs.declared.reply.Reply.TheVariants.{Done, Skipped, PublisherMade, SubscriberMade, Loaned}
+use Rattle.iox2_commands.specs.declared.reply.Reply.TheVariants.{LoanRefused, Delivered, Sample}
 use Rattle.iox2_commands.specs.declared.reply.Reply.TheVariants.{Cell}
 use Rattle.iox2_commands.proofs.WorkedRunDomains.{slice_domain, ◌▸◌}
 
@@ -29,9 +31,11 @@ not_up_to a b lt le = omega (arith, lt, le)
 -- machine word is refused, and a later loan is granted.
 pub growing_publisher_keeps_older_samples : (events : List (Event ℕ ℕ)) × (m : Messages ℕ ℕ) × (s : State ℕ ℕ)
     × Run ample_memory (only_defaults 0 0) no_messages (fresh (slice_domain 1 1 1 1 0 0 false))
-    (CreateSubscriber (Some 1) Warn ∷ CreatePublisher (record (publisher_with 1 DiscardData) { allocation = BestFit }) ∷ LoanSlice 1 1 ∷ WriteAll 2 5 ∷ Send 2 ∷ Receive 0 ∷
+    (CreateSubscriber (Some 1) Warn ∷ CreatePublisher (record (publisher_with 1 DiscardData) { allocation = BestFit })
+    ∷ LoanSlice 1 1 ∷ WriteAll 2 5 ∷ Send 2 ∷ Receive 0 ∷
     LoanSlice 1 4 ∷ WriteAll 6 6 ∷ Send 6 ∷ Read 5 0 ∷ Read 5 1 ∷ LoanSlice 1 18446744073709551615 ∷ LoanSlice 1 4 ∷ [])
-    (SubscriberMade 1 ∷ PublisherMade 2 ∷ Loaned ∷ Done ∷ Delivered 1 ∷ Sample 2 ∷ Loaned ∷ Done ∷ Delivered 1 ∷ Cell (Some 5) ∷ Skipped ∷
+    (SubscriberMade 1 ∷ PublisherMade 2 ∷ Loaned ∷ Done ∷ Delivered 1 ∷ Sample 2 ∷ Loaned ∷ Done ∷ Delivered 1 ∷ Cell
+    (Some 5) ∷ Skipped ∷
     LoanRefused InternalFailure ∷ Loaned ∷ [])
     events m s
     × ((s.warnings).latest ≡ ExpiredBufferRaised 1 ∷ [])
@@ -41,18 +45,106 @@ growing_publisher_keeps_older_samples = (
   _,
   (
     _,
-    (_, (_, None, (_, None, (_, (_, None, None, (refl, refl), (refl, refl), refl), refl), refl), refl), refl, refl) ▸
-        (_, (_, None, (_, None, (_, (_, None, None, inl (refl, refl), (refl, refl), refl), refl), refl), refl), refl, refl) ▸
+    (_, (_, None, (_, None, (_, (_, None, None, (refl, refl), (refl, refl), refl), refl), refl), refl), refl, refl) ▸ (
+      _,
+      (_, None, (_, None, (_, (_, None, None, inl (refl, refl), (refl, refl), refl), refl), refl), refl),
+      refl,
+      refl,
+    ) ▸
         (_, (_, None, (omega arith, inr refl, 1, inl refl, refl), refl), refl, refl) ▸
+        (_, refl, refl, refl) ▸ (
+          _,
+          (
+            _,
+            Delivered_to 1,
+            (
+              _,
+              None,
+              (refl, refl),
+              (Complete 1 false, _, (Accepted, _, (_, (refl, refl), refl), (refl, refl)), (refl, refl)),
+            ),
+            refl,
+          ),
+          refl,
+          refl,
+        ) ▸ (
+          _,
+          (
+            _,
+            Got_sample 2 1,
+            (
+              _,
+              None,
+              (
+                _,
+                (
+                  _,
+                  None,
+                  None,
+                  (_, None, None, inl (refl, refl), (refl, refl), refl),
+                  (_, None, None, (refl, refl), (refl, refl), refl),
+                  refl,
+                ),
+                refl,
+              ),
+              ((refl, refl), _, ([], refl, refl), refl),
+            ),
+            refl,
+          ),
+          refl,
+          refl,
+        ) ▸ (
+          _,
+          (
+            _,
+            None,
+            (
+              omega arith,
+              inr refl,
+              2,
+              inr (refl, omega arith, (let longer : 1 < 4 = omega arith in λ h. not_up_to 4 1 longer h.1)),
+              refl,
+            ),
+            refl,
+          ),
+          refl,
+          refl,
+        ) ▸
+        (_, refl, refl, refl) ▸ (
+          _,
+          (
+            _,
+            Delivered_to 1,
+            (
+              _,
+              None,
+              (refl, refl),
+              (Complete 1 false, _, (Accepted, _, (_, (refl, refl), refl), (refl, refl)), (refl, refl)),
+            ),
+            refl,
+          ),
+          refl,
+          refl,
+        ) ▸
         (_, refl, refl, refl) ▸
-        (_, (_, Delivered_to 1, (_, None, (refl, refl), (Complete 1 false, _, (Accepted, _, (_, (refl, refl), refl), (refl, refl)), (refl, refl))), refl), refl, refl) ▸
-        (_, (_, Got_sample 2 1, (_, None, (_, (_, None, None, (_, None, None, inl (refl, refl), (refl, refl), refl), (_, None, None, (refl, refl), (refl, refl), refl), refl), refl), ((refl, refl), _, ([], refl, refl), refl)), refl), refl, refl) ▸
-        (_, (_, None, (omega arith, inr refl, 2, inr (refl, omega arith, (let longer : 1 < 4 = omega arith in λ h. not_up_to 4 1 longer h.1)), refl), refl), refl, refl) ▸
-        (_, refl, refl, refl) ▸
-        (_, (_, Delivered_to 1, (_, None, (refl, refl), (Complete 1 false, _, (Accepted, _, (_, (refl, refl), refl), (refl, refl)), (refl, refl))), refl), refl, refl) ▸
-        (_, refl, refl, refl) ▸
-        (_, refl, refl, refl) ▸
-        (_, (_, Some InternalFailure, (refl, inr (inr refl, (let longer : 4 < 18446744073709551615 = omega arith in λ h. not_up_to 18446744073709551615 4 longer h.1))), refl), refl, refl) ▸
+        (_, refl, refl, refl) ▸ (
+          _,
+          (
+            _,
+            Some InternalFailure,
+            (
+              refl,
+              inr (
+                inr refl,
+                (let longer : 4 < 18446744073709551615 = omega arith in
+                    λ h. not_up_to 18446744073709551615 4 longer h.1),
+              ),
+            ),
+            refl,
+          ),
+          refl,
+          refl,
+        ) ▸
         (_, (_, None, (omega arith, inr refl, 2, inl refl, refl), refl), refl, refl) ▸
         (refl, refl, refl),
   ),
@@ -63,7 +155,8 @@ growing_publisher_keeps_older_samples = (
 -- number.
 pub growing_publisher_keeps_its_limit_of_loans : (events : List (Event ℕ ℕ)) × (m : Messages ℕ ℕ) × (s : State ℕ ℕ)
     × Run ample_memory (only_defaults 0 0) no_messages (fresh (slice_domain 1 1 1 1 0 0 false))
-    (CreatePublisher (record (publisher_with 2 DiscardData) { allocation = BestFit; override_slots = Some 1 }) ∷ LoanSlice 0 1 ∷ LoanSlice 0 1 ∷ LoanSlice 0 1 ∷ [])
+    (CreatePublisher (record (publisher_with 2 DiscardData) { allocation = BestFit; override_slots = Some 1 })
+    ∷ LoanSlice 0 1 ∷ LoanSlice 0 1 ∷ LoanSlice 0 1 ∷ [])
     (PublisherMade 1 ∷ Loaned ∷ Loaned ∷ LoanRefused ExceedsMaxLoans ∷ [])
     events m s
     × ((s.warnings).latest ≡ [])
@@ -74,8 +167,23 @@ growing_publisher_keeps_its_limit_of_loans = (
   (
     _,
     (_, (_, None, (_, None, (_, (refl, refl), refl), refl), refl), refl, refl) ▸
-        (_, (_, None, (omega arith, inr refl, 1, inl refl, refl), refl), refl, refl) ▸
-        (_, (_, None, (omega arith, inr refl, 2, inr (refl, omega arith, (let full : 1 ≤ 1 = omega arith in λ h. not_below 1 1 full h.0)), refl), refl), refl, refl) ▸
+        (_, (_, None, (omega arith, inr refl, 1, inl refl, refl), refl), refl, refl) ▸ (
+          _,
+          (
+            _,
+            None,
+            (
+              omega arith,
+              inr refl,
+              2,
+              inr (refl, omega arith, (let full : 1 ≤ 1 = omega arith in λ h. not_below 1 1 full h.0)),
+              refl,
+            ),
+            refl,
+          ),
+          refl,
+          refl,
+        ) ▸
         (_, (_, Some ExceedsMaxLoans, (refl, refl), refl), refl, refl) ▸
         (refl, refl, refl),
   ),

@@ -17,7 +17,8 @@ use Rattle.iox2_commands.specs.declared.command.Command.{Command}
 
 -- An environment whose boxed handlers may give each answer that passes a test. A clause can range over tests alone; the
 -- lemmas behind the laws hold of every environment.
-abbrev pub tested_environment : (may_refuse_memory : Bool) → (ℕ → BackpressureInfo → BackpressureAction → Bool) → (ℕ → DegradationCause → DegradationInfo → DegradationAction → Bool) → Environment
+abbrev pub tested_environment : (may_refuse_memory : Bool) → (ℕ → BackpressureInfo → BackpressureAction → Bool)
+    → (ℕ → DegradationCause → DegradationInfo → DegradationAction → Bool) → Environment
 tested_environment may_refuse_memory backpressure degradation = record {
   may_refuse_memory = IsTrue may_refuse_memory;
   backpressure_answers = λ port info action. IsTrue (backpressure port info action);
@@ -28,19 +29,26 @@ tested_environment may_refuse_memory backpressure degradation = record {
 -- handlers answer and whether or not memory is refused.
 abbrev pub StepsKeepWellFormed : Type 0 → Type 0 → Type 0
 StepsKeepWellFormed T U =
-    (may_refuse_memory : Bool) (backpressure : ℕ → BackpressureInfo → BackpressureAction → Bool) (degradation : ℕ → DegradationCause → DegradationInfo → DegradationAction → Bool)
-    (default_value : T) (default_header : U) (m : Messages T U) (s : State T U) (handles : List Handle) (command : Command T U) (o : Outcome T U)
-    → IsWellFormed s → Step (tested_environment may_refuse_memory backpressure degradation) default_value default_header m s handles command o
+    (may_refuse_memory : Bool) (backpressure : ℕ → BackpressureInfo → BackpressureAction → Bool)
+    (degradation : ℕ → DegradationCause → DegradationInfo → DegradationAction → Bool)
+    (default_value : T) (default_header : U) (m : Messages T U) (s : State T U) (handles : List Handle)
+    (command : Command T U) (o : Outcome T U)
+    → IsWellFormed s → Step (tested_environment may_refuse_memory backpressure degradation) default_value default_header
+    m s handles command o
     → IsWellFormed o.state × Advances s o.state
 
 -- A step on what is kept is a step from each state that is shown, with the same outcome, to a state that is shown
 -- afterwards; and the messages are those of before with the one that was sent.
 abbrev pub StepsLift : Type 0 → Type 0 → Type 0
 StepsLift T U =
-    (may_refuse_memory : Bool) (backpressure : ℕ → BackpressureInfo → BackpressureAction → Bool) (degradation : ℕ → DegradationCause → DegradationInfo → DegradationAction → Bool)
-    (default_value : T) (default_header : U) (old new : Stored T U) (handles : List Handle) (command : Command T U) (o : Outcome T U)
-    → StoredStep (tested_environment may_refuse_memory backpressure degradation) default_value default_header old handles command o new
+    (may_refuse_memory : Bool) (backpressure : ℕ → BackpressureInfo → BackpressureAction → Bool)
+    (degradation : ℕ → DegradationCause → DegradationInfo → DegradationAction → Bool)
+    (default_value : T) (default_header : U) (old new : Stored T U) (handles : List Handle) (command : Command T U)
+    (o : Outcome T U)
+    → StoredStep (tested_environment may_refuse_memory backpressure degradation) default_value default_header old
+    handles command o new
     → (m : Messages T U) (s : State T U) → StoredShows old m s
     → (m' : Messages T U) × (s' : State T U) × StoredShows new m' s'
-    × Step (tested_environment may_refuse_memory backpressure degradation) default_value default_header m s handles command o
+    × Step (tested_environment may_refuse_memory backpressure degradation) default_value default_header m s handles
+    command o
     × (m' ≡ messages_after o.event m) × (s' ≡ o.state)

@@ -6,8 +6,8 @@ use Rattle.iox2_machine.specs.declared.backpressure.BackpressureStrategy.{Backpr
 use Rattle.iox2_machine.specs.declared.degradation.DegradationAction.TheVariants.{Warn}
 use Rattle.iox2_commands.specs.declared.new_publisher.NewPublisher.{NewPublisher}
 
--- One segment for messages of one element, no override of its slots, and no handler but one that warns of connections that
--- aren't made.
+-- One segment for messages of one element, no override of its slots, and no handler but one that warns of connections
+-- that aren't made.
 abbrev pub publisher_with : (loans : ℕ) → BackpressureStrategy → NewPublisher
 publisher_with loans strategy = record {
   loans = loans;

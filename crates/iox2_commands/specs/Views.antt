@@ -7,7 +7,9 @@ use Rattle.iox2_machine.specs.machine.Records.{Subscriber}
 use Rattle.iox2_machine.specs.machine.State.{State, Messages}
 use Rattle.iox2_commands.specs.Outcomes.{Handle, No_handle, Sample_handle}
 use Rattle.iox2_commands.specs.declared.command.Command.{Command}
-use Rattle.iox2_commands.specs.declared.command.Command.TheVariants.{Nothing, CreateSubscriber, Receive, HasSamples, Update, Release, Read, ReadHeader, ReadUserHeader, SubscriberChannel}
+use Rattle.iox2_commands.specs.declared.command.Command.TheVariants.{Nothing, CreateSubscriber, Receive, HasSamples}
+use Rattle.iox2_commands.specs.declared.command.Command.TheVariants.{Update, Release, Read, ReadHeader, ReadUserHeader}
+use Rattle.iox2_commands.specs.declared.command.Command.TheVariants.{SubscriberChannel}
 
 -- Of another subscriber: whether it is open, its place and its buffer.
 pub record PublicPart : Type 0 where
@@ -16,7 +18,8 @@ pub record PublicPart : Type 0 where
   pub buffer : ℕ
 
 abbrev pub public_part : Option Subscriber → Option PublicPart
-public_part o = option_map {T = Subscriber} {U = PublicPart} (λ y. record { is_open = y.is_open; place = y.place; buffer = y.buffer }) o
+public_part o = option_map {T = Subscriber} {U = PublicPart}
+    (λ y. record { is_open = y.is_open; place = y.place; buffer = y.buffer }) o
 
 -- The handle, or none if it is another subscriber's sample.
 abbrev pub seen_handle : (q : ℕ) → Handle → Handle
@@ -26,7 +29,8 @@ seen_handle q handle = handle
 -- Both have the same configuration, counters, places, publishers, loans and messages. They have the same record,
 -- mailboxes and channels of q, and the same handles except for other subscribers' samples. Only three things are
 -- compared of another subscriber: whether it is open, its place and its buffer. Warnings aren't compared.
-pub record SameView {T U : Type 0} (q : ℕ) (m : Messages T U) (s : State T U) (named : List Handle) (m' : Messages T U) (s' : State T U) (named' : List Handle) : Type 0 where
+pub record SameView {T U : Type 0} (q : ℕ) (m : Messages T U) (s : State T U) (named : List Handle) (m' : Messages T U)
+    (s' : State T U) (named' : List Handle) : Type 0 where
   pub config : s.config ≡ s'.config
   pub next_port : s.next_port ≡ s'.next_port
   pub next_message : s.next_message ≡ s'.next_message
@@ -58,8 +62,8 @@ module _ {T U : Type 0} where
     | _ ↦ false
   ]
 
-  -- The command is a receive, `HasSamples`, update or call on channels of a subscriber that isn't made at `position`, or it
-  -- releases or reads what a receive of such a subscriber made.
+  -- The command is a receive, `HasSamples`, update or call on channels of a subscriber that isn't made at `position`,
+  -- or it releases or reads what a receive of such a subscriber made.
   abbrev pub may_be_omitted : (position : ℕ) → List (Command T U) → Command T U → Bool
   may_be_omitted position commands (Receive of) = makes_other_subscriber position commands of
   may_be_omitted position commands (HasSamples of) = makes_other_subscriber position commands of
@@ -73,7 +77,8 @@ module _ {T U : Type 0} where
 
   -- The second list is the first with `Nothing` in place of some calls of subscribers other than the one made at
   -- `position`; positions are looked up in `whole`.
-  abbrev pub OmitsOthersFrom : (position : ℕ) → (whole : List (Command T U)) → List (Command T U) → List (Command T U) → Type 0
+  abbrev pub OmitsOthersFrom : (position : ℕ) → (whole : List (Command T U)) → List (Command T U) → List (Command T U)
+      → Type 0
   OmitsOthersFrom position whole [] [] = Unit {0}
   OmitsOthersFrom position whole (command ∷ commands) (reduced ∷ others) =
       ((reduced ≡ command) ⊎ ((reduced ≡ Nothing) × (may_be_omitted position whole command ≡ true)))

@@ -11,10 +11,12 @@ use Rattle.iox2_connections.proofs.SplitLists.{times-split}
 
 -- the slots of the history below this index were given up
 pub record GivesUpTo (slots holders : List ℕ) (index : ℕ) (holders' : List ℕ) : Type 0 where
-  pub counters : (slot : ℕ) → get_or holders' slot 0 + times slot slots ≡ get_or holders slot 0 + times slot (drop index slots)
+  pub counters : (slot : ℕ)
+      → get_or holders' slot 0 + times slot slots ≡ get_or holders slot 0 + times slot (drop index slots)
   pub kept : length holders' ≡ length holders
 
-module _ (slots holders : List ℕ) (index slot : ℕ) (holders' : List ℕ) (h : GivesUpTo slots holders index holders') (at : slice_get slots index ≡ Some slot)
+module _ (slots holders : List ℕ) (index slot : ℕ) (holders' : List ℕ) (h : GivesUpTo slots holders index holders')
+    (at : slice_get slots index ≡ Some slot)
     (covered : (s : ℕ) → times s slots ≤ get_or holders s 0) where
   -- the next slot has a holder
   pub next-held : 0 < get_or holders' slot 0
@@ -23,6 +25,7 @@ module _ (slots holders : List ℕ) (index slot : ℕ) (holders' : List ℕ) (h 
   -- it is given up
   pub next-given : GivesUpTo slots holders (index + 1) (one_holder_less slot holders')
   next-given = record {
-    counters = λ s. omega (arith, h.counters s, times-split slots index slot at s, get_or-one_holder_less holders' slot s next-held);
+    counters = λ s. omega
+        (arith, h.counters s, times-split slots index slot at s, get_or-one_holder_less holders' slot s next-held);
     kept = length-set holders' slot _ ∙ h.kept;
   }

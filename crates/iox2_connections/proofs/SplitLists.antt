@@ -8,7 +8,8 @@ use Rattle.iox2_connections.proofs.Counts.{one_if, times-cons}
 
 module _ (slots : List ℕ) (index slot : ℕ) (at : slice_get slots index ≡ Some slot) where
   pub split-at : drop index slots ≡ slot ∷ drop (index + 1) slots
-  split-at = rw add-one (drop-cons slots index 0 (slice_get_within slots index slot at) ∙ ap (λ x. x ∷ drop (suc index) slots) (get_or_from_slice_get slots index slot 0 at))
+  split-at = rw add-one (drop-cons slots index 0 (slice_get_within slots index slot at)
+      ∙ ap (λ x. x ∷ drop (suc index) slots) (get_or_from_slice_get slots index slot 0 at))
 
   pub times-split : (s : ℕ) → times s (drop index slots) ≡ one_if s slot + times s (drop (index + 1) slots)
   times-split s = ap (times s) split-at ∙ times-cons s slot (drop (index + 1) slots)

@@ -34,8 +34,10 @@ pub record GrowsAlone (slot : ℕ) (holders holders' : List ℕ) : Type 0 where
   pub others : (other : ℕ) → other ≢ slot → slice_index holders' other ≤ slice_index holders other
 
 -- The counters of the publisher p changed as the numbers did of how often its slots stand in connections.
-pub record CountersFollow (p : ℕ) (holders : List ℕ) (connections : List (Option Link)) (holders' : List ℕ) (connections' : List (Option Link)) : Type 0 where
-  pub at : (slot : ℕ) → slice_index holders' slot + sum_by (stands p slot) connections ≡ slice_index holders slot + sum_by (stands p slot) connections'
+pub record CountersFollow (p : ℕ) (holders : List ℕ) (connections : List (Option Link)) (holders' : List ℕ)
+    (connections' : List (Option Link)) : Type 0 where
+  pub at : (slot : ℕ) → slice_index holders' slot + sum_by
+      (stands p slot) connections ≡ slice_index holders slot + sum_by (stands p slot) connections'
 
 -- The counters with one holder more of the slot.
 abbrev pub one_holder_more : (slot : ℕ) → List ℕ → List ℕ

@@ -60,7 +60,8 @@ pub record IsReceiverLinked (q most : ℕ) (connections : Slab Link) (keys : Lis
   pub at : (i key : ℕ) → slice_index_or keys i None ≡ Some key → IsSomeAnd (get connections key) (IsReceivers q most)
 
 -- The subscriber q is y to the machine: these are the keys of its expired connections and those at its places.
-pub record IsReceiver (q most : ℕ) (connections : Slab Link) (expired_keys : List ℕ) (keys : List (Option ℕ)) (y : Subscriber) : Type 0 where
+pub record IsReceiver (q most : ℕ) (connections : Slab Link) (expired_keys : List ℕ) (keys : List (Option ℕ))
+    (y : Subscriber) : Type 0 where
   pub apart : IsApart connections
   pub kept : IsReceiverLinked q most connections (map Some expired_keys)
   pub linked : IsReceiverLinked q most connections keys
@@ -71,13 +72,14 @@ module _ (q limit : ℕ) (connections : Slab Link) (y : Subscriber) (boxes : ℕ
   -- The connection is the subscriber q's, and a message may be received from its publisher; or some wait and all are at
   -- the limit; or none waits.
   abbrev pub FindsFor : Found → Type 0
-  FindsFor (Found.Ready key) = IsSomeAnd (get connections key) (λ (c : Link). (c.home.subscriber ≡ q) × MayReceiveFrom limit y boxes c.home.publisher)
+  FindsFor (Found.Ready key) = IsSomeAnd (get connections key)
+      (λ (c : Link). (c.home.subscriber ≡ q) × MayReceiveFrom limit y boxes c.home.publisher)
   FindsFor Found.AtLimit =
       (has_any_data y boxes ≡ true) × (can_receive_of limit y boxes (connected_publishers y) ≡ false)
   FindsFor Found.Nothing = has_any_data y boxes ≡ false
 
--- Whatever numbers the slots have, this is what the subscriber with these keys finds: a connection to receive from, where
--- there is one.
+-- Whatever numbers the slots have, this is what the subscriber with these keys finds: a connection to receive from,
+-- where there is one.
 pub record Finds (connections : Slab Link) (expired : List ℕ) (keys : List (Option ℕ)) (found : Found) : Type 0 where
   pub finds : (q limit : ℕ) (y : Subscriber) → IsReceiver q limit connections expired keys y → (number : ℕ → ℕ → ℕ)
       → FindsFor q limit connections y (λ p. mailboxes_of number connections p q) found

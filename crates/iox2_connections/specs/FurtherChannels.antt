@@ -1,5 +1,6 @@
 -- The channels of a connection behind channel 0, as rings of slots.
-use Rattle.std.specs.Prelude.{◌≡◌, ℕ, suc, ◌<◌, ◌≤◌, Bool, true, false, List, [], ◌∷◌, ◌++◌, length, map, slice_index_or}
+use Rattle.std.specs.Prelude.{◌≡◌, ℕ, suc, ◌<◌, ◌≤◌, Bool, true, false, List, [], ◌∷◌, ◌++◌, length, map}
+use Rattle.std.specs.Prelude.{slice_index_or}
 use Rattle.std.specs.List.{All, AllWithin}
 use Rattle.iox2_machine.specs.machine.Channel.{Channel, new_channel}
 use Rattle.iox2_machine.specs.machine.Mailbox.{ChannelNumber}
@@ -8,7 +9,8 @@ use Rattle.iox2_connections.specs.declared.connection.PutOutcome.TheVariants.{Ta
 use Rattle.iox2_connections.specs.declared.further_channel.FurtherChannel.{FurtherChannel}
 
 -- With room the slot is the last of the ring. A full ring lets its first slot go for it, or stays as it is.
-abbrev pub IsRingPut : (room : ℕ) → (old : List ℕ) → (slot : ℕ) → (overflow : Bool) → PutOutcome → (new : List ℕ) → Type 0
+abbrev pub IsRingPut : (room : ℕ) → (old : List ℕ) → (slot : ℕ) → (overflow : Bool) → PutOutcome → (new : List ℕ)
+    → Type 0
 IsRingPut room old slot overflow Taken new = (length old < room) × (new ≡ old ++ slot ∷ [])
 IsRingPut room old slot overflow (Overwrote oldest) new =
     (overflow ≡ true) × (length old ≡ room) × ((rest : List ℕ) × (old ≡ oldest ∷ rest) × (new ≡ rest ++ slot ∷ []))

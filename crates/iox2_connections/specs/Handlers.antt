@@ -21,7 +21,8 @@ module _ {F : Type 0} where
   marks_of handler = option_map mark_of handler
 
   -- What a handler that may be missing may answer.
-  abbrev pub AnswersAllowed : (F → BackpressureInfo → BackpressureAction → Type 0) → Option (BackpressureHandler F) → BackpressureInfo → BackpressureAction → Type 0
+  abbrev pub AnswersAllowed : (F → BackpressureInfo → BackpressureAction → Type 0) → Option (BackpressureHandler F)
+      → BackpressureInfo → BackpressureAction → Type 0
   AnswersAllowed allows None info answer = ⊥
   AnswersAllowed allows (Some handler) info answer = MayAnswer allows handler info answer
 

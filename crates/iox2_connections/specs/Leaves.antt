@@ -15,7 +15,8 @@ holds_slots c = not (is_nil (other_slots c) && (is_nil c.waiting && is_nil c.bor
 
 -- Each slot has one holder less for each place where it stood in the connection and stands no more.
 pub record ReleasesFrom (holders : List ℕ) (old : Link) (holders' : List ℕ) (new : Link) : Type 0 where
-  pub counters : (slot : ℕ) → slice_index holders' slot + stands_in slot old ≡ slice_index holders slot + stands_in slot new
+  pub counters : (slot : ℕ)
+      → slice_index holders' slot + stands_in slot old ≡ slice_index holders slot + stands_in slot new
   pub slots : length holders' ≡ length holders
 
 -- Each slot has one holder less for each place where it stands among these.

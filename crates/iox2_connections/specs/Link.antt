@@ -20,11 +20,22 @@ pub record Link : Type 0 where
   pub waiting : List ℕ  -- in channel 0: delivered and not yet received, oldest first
   pub borrowed : List ℕ  -- received and not yet released, in the order of receipt
   pub returned : List ℕ  -- released and not yet reclaimed, oldest first
-  pub others : List ChannelNumber  -- the slots that wait in the other channels, by rising channel, and in each oldest first
+  -- the slots that wait in the other channels, by rising channel, and in each oldest first
+  pub others : List ChannelNumber
 
 -- A new connection with that many channels: no slot stands in it, its channels are open, and it isn't marked as open.
 abbrev pub empty_link : Home → (buffer limit count : ℕ) → Link
-empty_link home buffer limit count = record { home = home; buffer = buffer; limit = limit; is_open = false; channels = replicate count new_channel; waiting = []; borrowed = []; returned = []; others = [] }
+empty_link home buffer limit count = record {
+  home = home;
+  buffer = buffer;
+  limit = limit;
+  is_open = false;
+  channels = replicate count new_channel;
+  waiting = [];
+  borrowed = [];
+  returned = [];
+  others = [];
+}
 
 -- ---- reading
 
@@ -87,13 +98,15 @@ IsPut channel old slot overflow Taken new =
 IsPut channel old slot overflow (Overwrote oldest) new =
     (overflow ≡ true) × (length (slots_in channel old) ≡ old.buffer)
     × ((rest : List ℕ) × (slots_in channel old ≡ oldest ∷ rest) × (new ≡ with_slots_in channel (rest ++ slot ∷ []) old))
-IsPut channel old slot overflow Full new = (overflow ≡ false) × (length (slots_in channel old) ≡ old.buffer) × (new ≡ old)
+IsPut channel old slot overflow Full new =
+    (overflow ≡ false) × (length (slots_in channel old) ≡ old.buffer) × (new ≡ old)
 
 -- The first slot that waits in channel 0 becomes borrowed, if there is one.
 abbrev pub IsTaken : Link → Option ℕ → Link → Type 0
 IsTaken old None new = (old.waiting ≡ []) × (new ≡ old)
 IsTaken old (Some slot) new =
-    (rest : List ℕ) × (old.waiting ≡ slot ∷ rest) × (new ≡ record old { waiting = rest; borrowed = old.borrowed ++ slot ∷ [] })
+    (rest : List ℕ) × (old.waiting ≡ slot ∷ rest)
+    × (new ≡ record old { waiting = rest; borrowed = old.borrowed ++ slot ∷ [] })
 
 -- The first slot that waits in channel 0 goes, if there is one.
 abbrev pub IsDropped : Link → Option ℕ → Link → Type 0
@@ -137,15 +150,18 @@ changed_in expected change channel = if is_in_state expected channel then change
 
 -- The channel with that number, where it is there and in the state `expected`, is changed so.
 abbrev pub channels_changed : (number expected : ℕ) → (Channel → Channel) → List Channel → List Channel
-channels_changed number expected change channels = slice_set channels number (changed_in expected change (channel_at channels number))
+channels_changed number expected change channels =
+    slice_set channels number (changed_in expected change (channel_at channels number))
 
 -- The connection has these channels. Where channel 0 is closed it isn't marked as open any more.
 abbrev pub having_channels : List Channel → Link → Link
-having_channels channels c = record c { is_open = c.is_open && not (is_closed (channel_at channels 0)); channels = channels }
+having_channels channels c =
+    record c { is_open = c.is_open && not (is_closed (channel_at channels 0)); channels = channels }
 
 -- The channel with that number, where it is in the state `expected`, comes into this one.
 abbrev pub state_changed : (number expected state : ℕ) → Link → Link
-state_changed number expected state c = having_channels (channels_changed number expected (with_state state) c.channels) c
+state_changed number expected state c =
+    having_channels (channels_changed number expected (with_state state) c.channels) c
 
 -- The channel with that number, where it is in the state `expected`, has a hint.
 abbrev pub hint_set : (number expected : ℕ) → Link → Link
@@ -153,8 +169,8 @@ hint_set number expected c = having_channels (channels_changed number expected w
 
 -- ---- bounds
 
--- Waiting slots, of each channel, and borrowed slots are within their limits. The slots of the other three lists together
--- are within the two: what is given back takes no more than what was borrowed left.
+-- Waiting slots, of each channel, and borrowed slots are within their limits. The slots of the other three lists
+-- together are within the two: what is given back takes no more than what was borrowed left.
 -- A connection whose channel 0 is closed isn't marked as open.
 pub record IsBounded (c : Link) : Type 0 where
   pub some_room : 0 < c.buffer

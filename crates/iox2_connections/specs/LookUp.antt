@@ -12,4 +12,5 @@ module _ {A : Type 0} where
 
   -- The test holds of one record at most.
   pub record IsOnly (test : A → Bool) (xs : List (Option A)) : Type 0 where
-    pub one : (i j : ℕ) (x y : A) → slice_index_or xs i None ≡ Some x → slice_index_or xs j None ≡ Some y → test x ≡ true → test y ≡ true → i ≡ j
+    pub one : (i j : ℕ) (x y : A) → slice_index_or xs i None ≡ Some x → slice_index_or xs j None ≡ Some y
+        → test x ≡ true → test y ≡ true → i ≡ j

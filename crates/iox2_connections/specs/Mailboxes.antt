@@ -1,4 +1,5 @@
--- The machine's mailboxes, as the connections of a slab show them. `number` has the message number of each slot, by publisher.
+-- The machine's mailboxes, as the connections of a slab show them. `number` has the message number of each slot, by
+-- publisher.
 use Rattle.std.specs.Prelude.{ℕ, Bool, ◌&&◌, ◌==◌, List, map}
 use Rattle.std.specs.declared.option.Option.{Option}
 use Rattle.std.specs.declared.option.Option.TheVariants.{None, Some}
@@ -20,7 +21,8 @@ numbered number ms = map (λ (m : ChannelNumber). record m { number = number m.n
 
 -- The mailbox that a connection is, where its slots have these numbers.
 abbrev pub mailbox_of : (ℕ → ℕ) → Link → Mailbox
-mailbox_of number c = record { waiting = map number c.waiting; borrowed = map number c.borrowed; others = numbered number c.others }
+mailbox_of number c =
+    record { waiting = map number c.waiting; borrowed = map number c.borrowed; others = numbered number c.others }
 
 -- The mailbox that a connection is, or an empty one.
 abbrev pub mailbox_if_any : (ℕ → ℕ) → Option Link → Mailbox

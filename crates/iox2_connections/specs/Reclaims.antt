@@ -20,6 +20,7 @@ pub record IsHeld (holders : List ℕ) (c : Link) : Type 0 where
 pub record ReclaimsFrom (holders : List ℕ) (old : Link) (holders' : List ℕ) (new : Link) : Type 0 where
   pub kept : new ≡ record old { returned = new.returned }
   pub fewer : length new.returned ≤ length old.returned
-  pub counters : (slot : ℕ) → slice_index holders' slot + stands_in slot old ≡ slice_index holders slot + stands_in slot new
+  pub counters : (slot : ℕ)
+      → slice_index holders' slot + stands_in slot old ≡ slice_index holders slot + stands_in slot new
   pub shrinks : (slot : ℕ) → slice_index holders' slot ≤ slice_index holders slot
   pub slots : length holders' ≡ length holders

@@ -31,10 +31,12 @@ pub record KeepsReturned (key : ℕ) (old new : Slab Link) : Type 0 where
 pub record SameStands (old new : Slab Link) : Type 0 where
   pub follows : (p : ℕ) (holders : List ℕ) → CountersFollow p holders old.slots holders new.slots
 
--- Whatever numbers the slots have, the message in this slot, which waits first in the connection at the key, is borrowed.
+-- Whatever numbers the slots have, the message in this slot, which waits first in the connection at the key, is
+-- borrowed.
 pub record BorrowsSlot (old : Slab Link) (key slot : ℕ) (new : Slab Link) : Type 0 where
   pub takes : (c : Link) → get old key ≡ Some c → (number : ℕ → ℕ → ℕ)
-      → (box : Mailbox) × BorrowsFirst (mailboxes_of number old c.home.publisher c.home.subscriber) (number c.home.publisher slot) box
+      → (box : Mailbox)
+      × BorrowsFirst (mailboxes_of number old c.home.publisher c.home.subscriber) (number c.home.publisher slot) box
       × (mailboxes_of number new ≡ with_box (mailboxes_of number old) c.home.publisher c.home.subscriber box)
 
 -- This message, which waited in its connection, is borrowed there, and nothing else changes.
@@ -50,12 +52,15 @@ pub record TakesSlot (old : Slab Link) (taken : Taken) (new : Slab Link) : Type 
   pub stay : SameStands old new
 
 -- A subscriber with these keys receives: it takes a message from the connection that is found, or nothing changes.
-abbrev pub ReceivesSlot : (old : Slab Link) (expired : List ℕ) (keys : List (Option ℕ)) → Result (Option Taken) ReceiveError → (new : Slab Link) → Type 0
-ReceivesSlot old expired keys (Ok (Some taken)) new = Finds old expired keys (Found.Ready taken.connection) × TakesSlot old taken new
+abbrev pub ReceivesSlot : (old : Slab Link) (expired : List ℕ) (keys : List (Option ℕ))
+    → Result (Option Taken) ReceiveError → (new : Slab Link) → Type 0
+ReceivesSlot old expired keys (Ok (Some taken)) new =
+    Finds old expired keys (Found.Ready taken.connection) × TakesSlot old taken new
 ReceivesSlot old expired keys (Ok None) new = Finds old expired keys Found.Nothing × (new ≡ old)
 ReceivesSlot old expired keys (Err e) new = (e ≡ ExceedsMaxBorrows) × Finds old expired keys Found.AtLimit × (new ≡ old)
 
--- The message in this slot is no longer borrowed in the connection at the key, where the borrowed messages have different numbers.
+-- The message in this slot is no longer borrowed in the connection at the key, where the borrowed messages have
+-- different numbers.
 pub record ReleasesSlot (old : Slab Link) (key slot : ℕ) (new : Slab Link) : Type 0 where
   pub releases : (c : Link) → get old key ≡ Some c → (number : ℕ → ℕ → ℕ)
       → IsOnce (mailboxes_of number old c.home.publisher c.home.subscriber).borrowed
@@ -64,7 +69,8 @@ pub record ReleasesSlot (old : Slab Link) (key slot : ℕ) (new : Slab Link) : T
 
 -- The book for whose slots the connection is stands at its key, and has each slot that is borrowed there.
 abbrev pub HasItsSlots : Slab Book → Link → Type 0
-HasItsSlots books c = IsSomeAnd (get books c.home.book) (λ b. (slot : ℕ) → Contains c.borrowed slot → slot < length b.holders)
+HasItsSlots books c =
+    IsSomeAnd (get books c.home.book) (λ b. (slot : ℕ) → Contains c.borrowed slot → slot < length b.holders)
 
 -- The message was borrowed in the connection at the key, which is marked as open, and its slot has its number.
 pub record IsLastAt (connections : Slab Link) (books : Slab Book) (key : ℕ) (message : BorrowedMessage) : Type 0 where
@@ -77,7 +83,8 @@ pub record IsLastAt (connections : Slab Link) (books : Slab Book) (key : ℕ) (m
   pub number_is : IsSomeAnd (get books message.book) (λ b. slice_index b.numbers message.slot ≡ message.number)
 
 -- Such a message is given back, and nothing else changes.
-pub record ReturnsMessage (old : Slab Link) (books : Slab Book) (key : ℕ) (message : BorrowedMessage) (new : Slab Link) : Type 0 where
+pub record ReturnsMessage (old : Slab Link) (books : Slab Book) (key : ℕ) (message : BorrowedMessage)
+    (new : Slab Link) : Type 0 where
   pub is_last : IsLastAt old books key message
   pub releases : ReleasesSlot old key message.slot new
   pub returned : IsSomeAnd (get old key) (λ c. get new key ≡ Some (with_returned message.slot c))
@@ -86,6 +93,7 @@ pub record ReturnsMessage (old : Slab Link) (books : Slab Book) (key : ℕ) (mes
   pub stay : SameStands old new
 
 -- The message is given back where the answer is yes, and else nothing changes.
-abbrev pub ReleasesIfLast : (old : Slab Link) (books : Slab Book) (key : ℕ) → BorrowedMessage → Bool → (new : Slab Link) → Type 0
+abbrev pub ReleasesIfLast : (old : Slab Link) (books : Slab Book) (key : ℕ) → BorrowedMessage → Bool → (new : Slab Link)
+    → Type 0
 ReleasesIfLast old books key message true new = ReturnsMessage old books key message new
 ReleasesIfLast old books key message false new = new ≡ old

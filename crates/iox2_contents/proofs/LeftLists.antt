@@ -1,5 +1,6 @@
 -- What is left behind a reference to a list with room, of which the last elements may be hidden.
-use Rattle.std.proofs.Common.{◌≡◌, ◌≤◌, ◌∙◌, ℕ, Option, None, Some, true, zero, suc, replicate, List, [], ◌∷◌, ◌++◌, length, take, drop, refl, ap, sym, arith}
+use Rattle.std.proofs.Common.{◌≡◌, ◌≤◌, ◌∙◌, ℕ, Option, None, Some, true, zero, suc, replicate, List, [], ◌∷◌, ◌++◌}
+use Rattle.std.proofs.Common.{length, take, drop, refl, ap, sym, arith}
 use Rattle.std.proofs.lemmas.List.{length-append, length-drop, length-take-le, take-append-le, take-take}
 use Rattle.std.proofs.lemmas.Bool.{true≢false}
 use Rattle.std.proofs.lemmas.List.Elements.{All-cons, All-nil}
@@ -23,7 +24,8 @@ abbrev pub cell-list : {T : Type 0} → List (Option T) → (room lists : ℕ) �
 cell-list items room lists = record { items = items; room = room; lists = lists }
 
 -- cells that are all written are all listed
-pub all-written : {T : Type 0} (xs : List (Option T)) (n : ℕ) → list_all is_some (xs ++ replicate n None) ≡ true → All IsSome xs × (n ≡ 0)
+pub all-written : {T : Type 0} (xs : List (Option T)) (n : ℕ) → list_all is_some (xs ++ replicate n None) ≡ true
+    → All IsSome xs × (n ≡ 0)
 all-written [] zero is = (All-nil IsSome, refl)
 all-written [] (suc n) is = absurd (true≢false (sym is))
 all-written (None ∷ xs) n is = absurd (true≢false (sym is))
@@ -31,7 +33,8 @@ all-written (Some x ∷ xs) n is = let rest = all-written xs n is in (All-cons I
 
 -- all cells of a list with none behind them
 pub cells-each : {T : Type 0} (n room lists : ℕ) (xs zs ws : List (Option T)) → n ≡ length xs → zs ≡ xs
-    → cell-list (take n (ws ++ drop (length ws) xs)) room lists ≡ cell-list (take (length zs) (ws ++ drop (length ws) zs)) room lists
+    → cell-list (take n (ws ++ drop (length ws) xs)) room lists ≡ cell-list
+    (take (length zs) (ws ++ drop (length ws) zs)) room lists
 cells-each n room lists xs zs ws long same = rw (same, long) refl
 
 -- taking twice is taking once
@@ -40,8 +43,10 @@ take-same zero xs = refl
 take-same (suc n) [] = refl
 take-same (suc n) (x ∷ xs) = ap (λ ys. x ∷ ys) (take-same n xs)
 
--- of a list with others written over its first ones, the first are those of its own first ones with these written over them
-take-refill : {A : Type 0} (n : ℕ) (ws xs : List A) → take n (ws ++ drop (length ws) xs) ≡ take n (ws ++ drop (length ws) (take n xs))
+-- of a list with others written over its first ones, the first are those of its own first ones with these written over
+-- them
+take-refill : {A : Type 0} (n : ℕ) (ws xs : List A)
+    → take n (ws ++ drop (length ws) xs) ≡ take n (ws ++ drop (length ws) (take n xs))
 take-refill zero ws xs = refl
 take-refill (suc n) [] xs = take-same (suc n) xs
 take-refill (suc n) (w ∷ ws) [] = refl
@@ -51,12 +56,16 @@ long-enough : {A : Type 0} (ws xs : List A) (u : ℕ) → u ≤ length xs → u 
 long-enough ws xs u within = rw (length-append, length-drop) (omega (arith, within))
 
 -- the shown items of a list, behind which others are
-pub shown-each : {A : Type 0} (u n cap : ℕ) (xs ws : List A) (list : RoomList A) → u ≤ n → n ≡ length xs → take u xs ≡ list.items → cap ≡ list.room
-    → (over : List A) → over ≡ ws ++ drop (length ws) xs → room-list (take u (take n (over ++ drop (length over) xs))) cap ≡ with_each ws list
+pub shown-each : {A : Type 0} (u n cap : ℕ) (xs ws : List A) (list : RoomList A) → u ≤ n → n ≡ length xs
+    → take u xs ≡ list.items → cap ≡ list.room
+    → (over : List A) → over ≡ ws ++ drop (length ws) xs
+    → room-list (take u (take n (over ++ drop (length over) xs))) cap ≡ with_each ws list
 shown-each u n cap xs ws list within long same room over is =
     let fits : u ≤ length xs = omega (arith, within, long) in
     let first : take u (take n (over ++ drop (length over) xs)) ≡ take u over =
-    take-take u n (over ++ drop (length over) xs) within ∙ take-append-le u over (drop (length over) xs) (rw is (long-enough ws xs u fits)) in
-    let items : take u over ≡ take u (ws ++ drop (length ws) list.items) = ap (take u) is ∙ take-refill u ws xs ∙ ap (λ ys. take u (ws ++ drop (length ws) ys)) same in
+    take-take u n (over ++ drop (length over) xs) within
+    ∙ take-append-le u over (drop (length over) xs) (rw is (long-enough ws xs u fits)) in
+    let items : take u over ≡ take u (ws ++ drop (length ws) list.items) =
+    ap (take u) is ∙ take-refill u ws xs ∙ ap (λ ys. take u (ws ++ drop (length ws) ys)) same in
     let count : u ≡ length list.items = sym (length-take-le u xs fits) ∙ ap length same in
     rw (first, items, ← count, room) refl

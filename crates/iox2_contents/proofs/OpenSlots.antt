@@ -1,5 +1,6 @@
 -- What counts of one slot: cells that can be handed out as a list, and a list that is long enough.
-use Rattle.std.proofs.Common.{◌≡◌, ◌<◌, ◌≤◌, ◌∙◌, ◌==◌, ◌&&◌, ℕ, Bool, true, false, cond, [], length, refl, ap, sym, subst, arith}
+use Rattle.std.proofs.Common.{◌≡◌, ◌<◌, ◌≤◌, ◌∙◌, ◌==◌, ◌&&◌, ℕ, Bool, true, false, cond, [], length, refl, ap, sym}
+use Rattle.std.proofs.Common.{subst, arith}
 use Rattle.std.proofs.lemmas.Bool.Decides.{nat_tests}
 use Rattle.std.specs.Prelude.{nat_lt, nat_le}
 use Rattle.iox2_contents.specs.SlotContents.{ContentState, has_cells_to_hand_out}
@@ -22,7 +23,8 @@ zero-lt n m k is = grind (arith, nat_tests)
 pub one-if : (n m most : ℕ) → 0 < n → most ≤ m → cond {A = ℕ} (nat_lt 0 n && nat_le most m) 1 0 ≡ 1
 one-if n m most some fits = grind (arith, nat_tests)
 
-one-less : (n m most : ℕ) → (0 < n → 0 < most) → cond {A = ℕ} (nat_lt 0 n && nat_le most m) 1 0 ≤ cond {A = ℕ} (nat_lt 0 n && nat_lt 0 m) 1 0
+one-less : (n m most : ℕ) → (0 < n → 0 < most)
+    → cond {A = ℕ} (nat_lt 0 n && nat_le most m) 1 0 ≤ cond {A = ℕ} (nat_lt 0 n && nat_lt 0 m) 1 0
 one-less n m most some = grind (arith, nat_tests)
 
 at-most : (n m most : ℕ) → cond {A = ℕ} (nat_lt 0 n && nat_le most m) 1 0 ≤ 1
@@ -56,7 +58,8 @@ module _ {T U : Type 0} where
   one_if_open content = cond (has_cells_to_hand_out content) 1 0
 
   pub not-open : (content : ContentState T U) → content.cells ≡ [] → one_if_open content ≡ 0
-  not-open content none = ap (λ cells. cond {A = ℕ} (nat_lt 0 content.lists && nat_lt 0 (length cells)) 1 0) none ∙ ap (λ b. cond {A = ℕ} b 1 0) (and-false (nat_lt 0 content.lists))
+  not-open content none = ap (λ cells. cond {A = ℕ} (nat_lt 0 content.lists && nat_lt 0 (length cells)) 1 0) none
+      ∙ ap (λ b. cond {A = ℕ} b 1 0) (and-false (nat_lt 0 content.lists))
 
   pub open-once : (content : ContentState T U) → one_if_open content ≤ 1
   open-once content = by (has_cells_to_hand_out content) where
@@ -76,11 +79,13 @@ module _ {T U : Type 0} where
   pub has-some : (s : SlotState T U) → slot_has_list s ≡ true → (0 < s.content.lists) × (0 < s.cell_room)
   has-some s has = both-lt s.content.lists s.cell_room has
 
-  pub waits-for : (s : SlotState T U) → slot_waits s ≡ true → (0 < s.content.lists) × (s.cell_room ≡ 0) × (0 < length s.content.cells)
+  pub waits-for : (s : SlotState T U) → slot_waits s ≡ true
+      → (0 < s.content.lists) × (s.cell_room ≡ 0) × (0 < length s.content.cells)
   waits-for s is = zero-lt s.content.lists s.cell_room (length s.content.cells) is
 
   -- a list that is long enough is one
-  pub long-has : (most : ℕ) (s : SlotState T U) → ShowsAtMost most s → one_if_long most s ≤ cond {A = ℕ} (slot_has_list s) 1 0
+  pub long-has : (most : ℕ) (s : SlotState T U) → ShowsAtMost most s
+      → one_if_long most s ≤ cond {A = ℕ} (slot_has_list s) 1 0
   long-has most s shows = one-less s.content.lists s.cell_room most (λ some. (shows.0 some).1)
 
   -- it is one at most, and none where it is shorter
@@ -92,16 +97,19 @@ module _ {T U : Type 0} where
 
   pub long-none : (most : ℕ) (s : SlotState T U) → ShowsAtMost most s → slot_has_list s ≡ false → one_if_long most s ≡ 0
   long-none most s shows none =
-      let no : one_if_long most s ≤ 0 = subst (λ b. one_if_long most s ≤ cond {A = ℕ} b 1 0) none (long-has most s shows) in
+      let no : one_if_long most s ≤ 0 =
+      subst (λ b. one_if_long most s ≤ cond {A = ℕ} b 1 0) none (long-has most s shows) in
       omega (arith, no)
 
   -- a slot with a list that is long enough has cells
-  pub long-open : (most n : ℕ) (s : SlotState T U) → ShowsAtMost most s → ListsCells s → (0 < s.content.lists → 0 < n) → one_if_long most s ≤ one_if_open (content_of n s)
+  pub long-open : (most n : ℕ) (s : SlotState T U) → ShowsAtMost most s → ListsCells s → (0 < s.content.lists → 0 < n)
+      → one_if_long most s ≤ one_if_open (content_of n s)
   long-open most n s shows lists more = by (slot_has_list s) refl where
     by : (b : Bool) → slot_has_list s ≡ b → one_if_long most s ≤ one_if_open (content_of n s)
     by true e =
         let some = (has-some s e).0 in
         let is = is-open (content_of n s) (subst (λ m. 0 < m) (sym (shown-lists n s some)) (more some)) (lists e) in
-        let no : one_if_long most s ≤ 1 = subst (λ b. one_if_long most s ≤ cond {A = ℕ} b 1 0) e (long-has most s shows) in
+        let no : one_if_long most s ≤ 1 =
+        subst (λ b. one_if_long most s ≤ cond {A = ℕ} b 1 0) e (long-has most s shows) in
         omega (arith, is, no)
     by false e = omega (arith, long-none most s shows e)

@@ -6,13 +6,15 @@ use Rattle.iox2_contents.specs.declared.payload.Payload.{Payload}
 use Rattle.iox2_contents.specs.declared.payload.Payload.TheVariants.{Empty, Unwritten, Written, Elements}
 
 module _ {T : Type 0} where
-  pub has-cell : (p : Payload T) → 0 < length (cells_of p) → is_in_place p ≡ true → ((cell : _) → p ≡ Unwritten cell → ⊥) → ⊥
+  pub has-cell : (p : Payload T) → 0 < length (cells_of p) → is_in_place p ≡ true
+      → ((cell : _) → p ≡ Unwritten cell → ⊥) → ⊥
   has-cell Empty some placed other = omega (arith, some)
   has-cell (Unwritten cell) some placed other = other cell refl
   has-cell (Written value) some placed other = omega (arith, some)
   has-cell (Elements elements) some placed other = true≢false (sym placed)
 
-  pub has-value : (p : Payload T) → 0 < length (values_of p) → is_in_place p ≡ true → ((value : _) → p ≡ Written value → ⊥) → ⊥
+  pub has-value : (p : Payload T) → 0 < length (values_of p) → is_in_place p ≡ true
+      → ((value : _) → p ≡ Written value → ⊥) → ⊥
   has-value Empty some placed other = omega (arith, some)
   has-value (Unwritten cell) some placed other = omega (arith, some)
   has-value (Written value) some placed other = other value refl

@@ -7,7 +7,8 @@ use Rattle.std.specs.declared.option.Option.{Option}
 abbrev pub keeps : (lists : ℕ) → ℕ
 keeps lists = if nat_lt 0 lists then 1 else 0
 
--- The cells of an unwritten loan, for how many there is room in a list of theirs, and 1 where the publisher keeps lists, or 0.
+-- The cells of an unwritten loan, for how many there is room in a list of theirs, and 1 where the publisher keeps
+-- lists, or 0.
 pub record CellList (T : Type 0) : Type 0 where
   pub items : List (Option T)
   pub room : ℕ

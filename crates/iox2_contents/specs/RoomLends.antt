@@ -2,7 +2,8 @@
 use Rattle.std.specs.Prelude.{List, Option}
 use Rattle.std.specs.Borrow.{Lends, MutBor, Fml, RattleType, Array}
 use Rattle.std.specs.contracts.option.Option.{the_row as option_row}
-use Rattle.iox2_contents.specs.CellLists.{CellList, with_first_cell_in as with_first_cell, with_each_cell_in as with_each_cell}
+use Rattle.iox2_contents.specs.CellLists.{CellList, with_first_cell_in as with_first_cell}
+use Rattle.iox2_contents.specs.CellLists.{with_each_cell_in as with_each_cell}
 use Rattle.iox2_contents.specs.RoomLists.{RoomList, with_first, with_each}
 use Rattle.iox2_contents.specs.contracts.cells.Cells.{the_row as cells_row}
 use Rattle.iox2_contents.specs.contracts.values.Values.{the_row as values_row}

@@ -1,14 +1,15 @@
 -- What contracts see of the contents of a publisher's slots.
-use Rattle.std.specs.Prelude.{◌≡◌, ℕ, Bool, true, false, ◌&&◌, if◌then◌else◌, List, [], ◌++◌, length, map, nat_lt, replicate, slice_get, slice_set, sum_by, is_some, IsSomeAnd}
+use Rattle.std.specs.Prelude.{◌≡◌, ℕ, Bool, true, false, ◌&&◌, if◌then◌else◌, List, [], ◌++◌, length, map, nat_lt}
+use Rattle.std.specs.Prelude.{replicate, slice_get, slice_set, sum_by, is_some, IsSomeAnd}
 use Rattle.std.specs.Bool.{MatchBool}
 use Rattle.std.specs.List.{All, list_all, refill}
 use Rattle.std.specs.declared.option.Option.{Option}
 use Rattle.std.specs.declared.option.Option.TheVariants.{None, Some}
 use Rattle.std.specs.Option.{option_map, option_map_or, option_and_then}
 
--- What lies in a slot: a user header, the cells of an unwritten loan, the values of a written loan or a sent message, for
--- how many elements there is room, whether a single element lies in the slot itself, so that it is no list, and for how many
--- loans at a time the slots of the same publisher can hand out cells as a list.
+-- What lies in a slot: a user header, the cells of an unwritten loan, the values of a written loan or a sent message,
+-- for how many elements there is room, whether a single element lies in the slot itself, so that it is no list, and for
+-- how many loans at a time the slots of the same publisher can hand out cells as a list.
 pub record ContentState (T U : Type 0) : Type 0 where
   pub user_header : U
   pub cells : List (Option T)
@@ -32,7 +33,8 @@ lists_for in_lists lists = if in_lists then lists else 0
 module _ {T U : Type 0} where
   -- The content of a loan that starts: that many unwritten cells, no values, and this user header.
   abbrev pub unwritten_content : (user_header : U) → (len : ℕ) → ContentState T U → ContentState T U
-  unwritten_content user_header len content = record content { user_header = user_header; cells = replicate len None; values = [] }
+  unwritten_content user_header len content =
+      record content { user_header = user_header; cells = replicate len None; values = [] }
 
   -- The content of a loan that is written: these values, and no cells.
   abbrev pub written_content : (values : List T) → ContentState T U → ContentState T U
@@ -107,8 +109,8 @@ module _ {T U : Type 0} where
     pub cells : All (λ content. content.cells ≡ []) added
     pub grown : new ≡ old ++ added
 
-  -- The content of a slot became another one without cells, which lies in place or in lists as it did. In lists it has no
-  -- room any more, so they take no memory. Nothing else changes.
+  -- The content of a slot became another one without cells, which lies in place or in lists as it did. In lists it has
+  -- no room any more, so they take no memory. Nothing else changes.
   pub record ClearsSlot (old new : List (ContentState T U)) (slot : ℕ) : Type 0 where
     pub content : ContentState T U
     pub had : ContentState T U

@@ -51,7 +51,8 @@ module _ {T : Type 0} where
   cell_room_of (Written value) = 0
   cell_room_of (Elements elements) = elements.value.cells.room
 
-  -- There is room in lists for the values of a loan once it is written, and for its first cell where its publisher keeps no lists.
+  -- There is room in lists for the values of a loan once it is written, and for its first cell where its publisher
+  -- keeps no lists.
   abbrev pub HasListRoom : Payload T → Type 0
   HasListRoom Empty = Unit {0}
   HasListRoom (Unwritten cell) = Unit {0}

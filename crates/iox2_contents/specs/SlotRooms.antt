@@ -1,5 +1,7 @@
--- Which unwritten cells a slot may have to show, and which lists its cells may have to have, which no public contract shows.
-use Rattle.std.specs.Prelude.{◌≡◌, ◌≢◌, ◌<◌, ◌≤◌, ◌+◌, ℕ, true, false, ◌&&◌, if◌then◌else◌, List, [], length, nat_le, nat_lt, slice_get, sum_by, IsSomeAnd}
+-- Which unwritten cells a slot may have to show, and which lists its cells may have to have, which no public contract
+-- shows.
+use Rattle.std.specs.Prelude.{◌≡◌, ◌≢◌, ◌<◌, ◌≤◌, ◌+◌, ℕ, true, false, ◌&&◌, if◌then◌else◌, List, [], length, nat_le}
+use Rattle.std.specs.Prelude.{nat_lt, slice_get, sum_by, IsSomeAnd}
 use Rattle.std.specs.List.{All}
 use Rattle.std.specs.declared.option.Option.TheVariants.{Some}
 use Rattle.iox2_contents.specs.SlotContents.{open_count}
@@ -8,7 +10,8 @@ use Rattle.iox2_contents.specs.SlotStates.{SlotState, contents_of, slot_has_list
 module _ {T U : Type 0} where
   -- That many unwritten cells are enough to be shown as those of a slot.
   abbrev pub ShowsAtMost : (most : ℕ) → SlotState T U → Type 0
-  ShowsAtMost most slot = (0 < slot.content.lists → (slot.content.room ≤ most) × (0 < most)) × (slot.content.is_in_place ≡ false → 0 < most)
+  ShowsAtMost most slot =
+      (0 < slot.content.lists → (slot.content.room ≤ most) × (0 < most)) × (slot.content.is_in_place ≡ false → 0 < most)
 
   -- Only cells have a list.
   abbrev pub ListsCells : SlotState T U → Type 0

@@ -36,7 +36,8 @@ module _ {T U : Type 0} where
   slot_waits slot = nat_lt 0 slot.content.lists && (slot.cell_room == 0 && nat_lt 0 (length slot.content.cells))
 
   -- The slot has no message yet, room for `room` elements, and a publisher that keeps `lists` lists of cells.
-  pub record IsNew (is_default : U → Type 0) (room : ℕ) (in_lists : Bool) (lists : ℕ) (slot : SlotState T U) : Type 0 where
+  pub record IsNew (is_default : U → Type 0) (room : ℕ) (in_lists : Bool) (lists : ℕ)
+      (slot : SlotState T U) : Type 0 where
     pub default : is_default slot.content.user_header
     pub cells : slot.content.cells ≡ []
     pub values : slot.content.values ≡ []

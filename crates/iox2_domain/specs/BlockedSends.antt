@@ -21,7 +21,8 @@ use Rattle.iox2_domain.specs.Deliveries.{DeliversFrom}
 
 -- The publisher after a delivery that had been blocked: the loan is out no more, or it waits for a receiver again.
 abbrev pub with_outcome : DeliveryOutcome → BlockedDelivery → PublisherFields → PublisherFields
-with_outcome (DeliveryOutcome.Complete count has_failed) b x = record x { loans = without b.slot x.loans; blocked = None }
+with_outcome (DeliveryOutcome.Complete count has_failed) b x =
+    record x { loans = without b.slot x.loans; blocked = None }
 with_outcome (DeliveryOutcome.Suspended progress) b x = record x { blocked = Some (record b { progress = progress }) }
 
 -- The counters then: the loan was one holder.
@@ -29,14 +30,16 @@ abbrev pub counters_after : DeliveryOutcome → (slot : ℕ) → List ℕ → Li
 counters_after (DeliveryOutcome.Complete count has_failed) slot holders = one_holder_less slot holders
 counters_after (DeliveryOutcome.Suspended progress) slot holders = holders
 
--- The blocked delivery of the publisher x may be taken up there: at its place or a later one, with no more receivers counted.
+-- The blocked delivery of the publisher x may be taken up there: at its place or a later one, with no more receivers
+-- counted.
 pub record CanGoOn (x : PublisherFields) (b : BlockedDelivery) (start : Progress) : Type 0 where
   pub later : (b.progress).place ≤ start.place
   pub within : start.place ≤ length (within_reach b x.keys)
   pub counted : start.count ≤ start.place
 
 -- The blocked delivery of the publisher x, which stands at that place, was taken up there, with this outcome.
-pub record GoesOn {T U : Type 0} (environment : Environment) (old : Fields T U) (place : ℕ) (x : PublisherFields) (b : BlockedDelivery)
+pub record GoesOn {T U : Type 0} (environment : Environment) (old : Fields T U) (place : ℕ) (x : PublisherFields)
+    (b : BlockedDelivery)
     (start : Progress) (elapsed : Duration) (outcome : DeliveryOutcome) (new : Fields T U) : Type 0 where
   pub delivered : Fields T U
   pub delivers : DeliversFrom environment old x b.channel (within_reach b x.keys) b.slot start elapsed outcome delivered
@@ -59,15 +62,21 @@ abbrev pub waiting_send : {T U : Type 0} → Fields T U → PublisherFields → 
 waiting_send f x b = blocked_send (number_in_slot f.books x.id) (sender_ends f.connections x.keys) b
 
 -- The blocked send of the publisher x was tried again, with this result. No entry is newly kept.
-pub record RetriesAs {T U : Type 0} (environment : Environment) (old new : Fields T U) (x : PublisherFields) (b : BlockedDelivery) (elapsed : Duration) (result : SendResult) : Type 0 where
+pub record RetriesAs {T U : Type 0} (environment : Environment) (old new : Fields T U) (x : PublisherFields)
+    (b : BlockedDelivery) (elapsed : Duration) (result : SendResult) : Type 0 where
   pub agrees : IsDomain new
-  pub retries : Retry environment (state_of (kept_of old)) x.id (waiting_send old x b) elapsed (state_of (kept_of new)) result
-  pub entries : (m : ℕ) (entry : Entry T U) → entries_of (kept_of new) m ≡ Some entry → entries_of (kept_of old) m ≡ Some entry
+  pub retries : Retry environment (state_of (kept_of old)) x.id (waiting_send old x b) elapsed
+      (state_of (kept_of new)) result
+  pub entries : (m : ℕ) (entry : Entry T U) → entries_of (kept_of new) m ≡ Some entry
+      → entries_of (kept_of old) m ≡ Some entry
   pub places : KeepsPlaces old new
 
--- The blocked send of the publisher x was given up at the receiver that it waits for, with this result. No entry is newly kept.
-pub record GivesUpAs {T U : Type 0} (environment : Environment) (old new : Fields T U) (x : PublisherFields) (b : BlockedDelivery) (result : SendResult) : Type 0 where
+-- The blocked send of the publisher x was given up at the receiver that it waits for, with this result. No entry is
+-- newly kept.
+pub record GivesUpAs {T U : Type 0} (environment : Environment) (old new : Fields T U) (x : PublisherFields)
+    (b : BlockedDelivery) (result : SendResult) : Type 0 where
   pub agrees : IsDomain new
   pub gives_up : GiveUp environment (state_of (kept_of old)) x.id (waiting_send old x b) (state_of (kept_of new)) result
-  pub entries : (m : ℕ) (entry : Entry T U) → entries_of (kept_of new) m ≡ Some entry → entries_of (kept_of old) m ≡ Some entry
+  pub entries : (m : ℕ) (entry : Entry T U) → entries_of (kept_of new) m ≡ Some entry
+      → entries_of (kept_of old) m ≡ Some entry
   pub places : KeepsPlaces old new

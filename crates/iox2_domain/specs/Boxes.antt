@@ -43,19 +43,23 @@ module _ {F G : Type 0} where
   degradation_box_of id boxes = option_and_then (λ (x : PortBoxes F G). x.degradation) (boxes_of id boxes)
 
 -- What the box of a publisher may answer at a full buffer; where there is none the strategy is followed.
-abbrev pub BoxAnswers : {F : Type 0} → (F → BackpressureInfo → BackpressureAction → Type 0) → Option F → BackpressureInfo → BackpressureAction → Type 0
+abbrev pub BoxAnswers : {F : Type 0} → (F → BackpressureInfo → BackpressureAction → Type 0) → Option F
+    → BackpressureInfo → BackpressureAction → Type 0
 BoxAnswers allows None info action = action ≡ FollowBackpressureyStrategy
 BoxAnswers allows (Some f) info action = allows f info action
 
 -- What the box of a port may answer where it can't make a connection; where there is none it is warned.
-abbrev pub BoxDegrades : {G : Type 0} → (G → DegradationCause → DegradationInfo → DegradationAction → Type 0) → Option G → DegradationCause → DegradationInfo → DegradationAction → Type 0
+abbrev pub BoxDegrades : {G : Type 0} → (G → DegradationCause → DegradationInfo → DegradationAction → Type 0) → Option G
+    → DegradationCause → DegradationInfo → DegradationAction → Type 0
 BoxDegrades degrades None cause info action = action ≡ Warn
 BoxDegrades degrades (Some g) cause info action = degrades g cause info action
 
 -- The ports of one side have these boxes, and memory may be refused.
-abbrev pub answers_of : {F G : Type 0} → (F → BackpressureInfo → BackpressureAction → Type 0) → (G → DegradationCause → DegradationInfo → DegradationAction → Type 0) → List (PortBox F G) → Environment
+abbrev pub answers_of : {F G : Type 0} → (F → BackpressureInfo → BackpressureAction → Type 0)
+    → (G → DegradationCause → DegradationInfo → DegradationAction → Type 0) → List (PortBox F G) → Environment
 answers_of allows degrades boxes = record {
   may_refuse_memory = Unit {0};
   backpressure_answers = λ port info action. BoxAnswers allows (box_of port boxes) info action;
-  degradation_answers = λ port cause info action. BoxDegrades degrades (degradation_box_of port boxes) cause info action;
+  degradation_answers =
+      λ port cause info action. BoxDegrades degrades (degradation_box_of port boxes) cause info action;
 }

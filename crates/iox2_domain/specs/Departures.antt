@@ -29,14 +29,16 @@ pub record IsUnshared (publishers : List (Option PublisherFields)) (q key : ℕ)
   pub unshared : SenderHas publishers key c → ⊥
 
 -- Some connections went that were the subscriber q's alone, and no others. At these keys none of these is left.
-pub record DropsUnshared (publishers : List (Option PublisherFields)) (q : ℕ) (keys : ℕ → Type 0) (old new : Slab Link) : Type 0 where
+pub record DropsUnshared (publishers : List (Option PublisherFields)) (q : ℕ) (keys : ℕ → Type 0)
+    (old new : Slab Link) : Type 0 where
   pub kept : (key : ℕ) (c : Link) → get new key ≡ Some c → get old key ≡ Some c
   pub others : (key : ℕ) (c : Link) → get old key ≡ Some c → (get new key ≡ Some c) ⊎ IsUnshared publishers q key c
   pub done : (key : ℕ) (c : Link) → keys key → get new key ≡ Some c → c.home.subscriber ≡ q → SenderHas publishers key c
 
 -- The subscriber q has borrowed nothing in the connections at these keys.
 abbrev pub BorrowsNothing : Slab Link → (q : ℕ) → (keys : ℕ → Type 0) → Type 0
-BorrowsNothing connections q keys = (key : ℕ) (c : Link) → keys key → get connections key ≡ Some c → c.home.subscriber ≡ q → c.borrowed ≡ []
+BorrowsNothing connections q keys =
+    (key : ℕ) (c : Link) → keys key → get connections key ≡ Some c → c.home.subscriber ≡ q → c.borrowed ≡ []
 
 -- The subscriber q has borrowed something.
 pub record BorrowsSome (connections : Slab Link) (q : ℕ) : Type 0 where
@@ -48,5 +50,6 @@ pub record BorrowsSome (connections : Slab Link) (q : ℕ) : Type 0 where
 
 -- The connection at the key is gone, and the subscriber at the place has forgotten it.
 pub record ForgetsConnection {T U : Type 0} (f : Fields T U) (place key : ℕ) (f' : Fields T U) : Type 0 where
-  pub fields : f' ≡ record f { subscribers = changed_at (key_forgotten key) f.subscribers place; connections = f'.connections }
+  pub fields : f' ≡ record f
+      { subscribers = changed_at (key_forgotten key) f.subscribers place; connections = f'.connections }
   pub removed : Updates f.connections f'.connections key None

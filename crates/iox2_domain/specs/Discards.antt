@@ -16,9 +16,10 @@ use Rattle.iox2_domain.specs.Reaches.{Reaches}
 abbrev pub with_holder_gone : (slot : ℕ) → Book → Book
 with_holder_gone slot book = with_holders book slot (holders_at book slot - 1)
 
--- The fields after the publisher x, which stands at that place, has taken back the loan in the slot of its book. The slot has
--- no cells any more.
-abbrev pub with_loan_discarded : {T U : Type 0} → Fields T U → (place : ℕ) → PublisherFields → (slot : ℕ) → Book → Fields T U
+-- The fields after the publisher x, which stands at that place, has taken back the loan in the slot of its book. The
+-- slot has no cells any more.
+abbrev pub with_loan_discarded : {T U : Type 0} → Fields T U → (place : ℕ) → PublisherFields → (slot : ℕ) → Book
+    → Fields T U
 with_loan_discarded f place x slot book = record f {
   publishers = slice_set f.publishers place (Some (with_loan_out slot x));
   books = with_value f.books x.book (with_holder_gone slot book);
@@ -28,4 +29,5 @@ with_loan_discarded f place x slot book = record f {
 -- The fields reach the state after the machine's discard of the loan n.
 abbrev pub DiscardsLoan : {T U : Type 0} → (old new : Fields T U) → (n : ℕ) → Type 0
 DiscardsLoan {T} {U} old new n =
-    (l : Loan T U) × ((state_of (kept_of old)).loans n ≡ Some l) × Reaches old new (loan_discarded (state_of (kept_of old)) n l)
+    (l : Loan T U) × ((state_of (kept_of old)).loans n ≡ Some l)
+    × Reaches old new (loan_discarded (state_of (kept_of old)) n l)

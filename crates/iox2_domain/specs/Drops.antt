@@ -27,11 +27,12 @@ module _ {T U : Type 0} where
   -- The state in which nothing waits in the connection c of the publisher x.
   abbrev pub with_waiting_dropped : Fields T U → PublisherFields → Link → State T U
   with_waiting_dropped f x c = record (state_of (kept_of f)) {
-    mailboxes = with_box (state_of (kept_of f)).mailboxes x.id c.home.subscriber (waiting_dropped ((state_of (kept_of f)).mailboxes x.id c.home.subscriber));
+    mailboxes = with_box (state_of (kept_of f)).mailboxes x.id c.home.subscriber
+        (waiting_dropped ((state_of (kept_of f)).mailboxes x.id c.home.subscriber));
   }
 
-  -- The publisher at the place i, which isn't due and has no blocked delivery, has the connection at the key as its end at the
-  -- subscriber's place j.
+  -- The publisher at the place i, which isn't due and has no blocked delivery, has the connection at the key as its end
+  -- at the subscriber's place j.
   pub record HasEnd (f : Fields T U) (i j key : ℕ) : Type 0 where
     pub publisher : PublisherFields
     pub stands : slice_index_or f.publishers i None ≡ Some publisher
@@ -41,23 +42,33 @@ module _ {T U : Type 0} where
     pub link : Link
     pub connected : get f.connections key ≡ Some link
 
-  -- What waited in the connection c of the publisher x is lost. Connections and counters of slots changed, and no entry is
-  -- newly kept.
+  -- What waited in the connection c of the publisher x is lost. Connections and counters of slots changed, and no entry
+  -- is newly kept.
   pub record LosesWaiting (f : Fields T U) (x : PublisherFields) (c : Link) (f' : Fields T U) : Type 0 where
     pub agrees : IsDomain f'
     pub fields : f' ≡ record f { connections = f'.connections; books = f'.books }
     pub homes : SameHomes f.connections f'.connections
     pub state : state_of (kept_of f') ≡ with_waiting_dropped f x c
-    pub entries : (n : ℕ) (entry : Entry T U) → entries_of (kept_of f') n ≡ Some entry → entries_of (kept_of f) n ≡ Some entry
+    pub entries : (n : ℕ) (entry : Entry T U) → entries_of (kept_of f') n ≡ Some entry
+        → entries_of (kept_of f) n ≡ Some entry
     pub places : KeepsPlaces f f'
 
-  -- The publisher x at the place i, which isn't due, has lost its end at the subscriber's place j as the machine takes it
-  -- away: what waited there is lost, and nothing changed except its keys, connections and counters of slots.
+  -- The publisher x at the place i, which isn't due, has lost its end at the subscriber's place j as the machine takes
+  -- it away: what waited there is lost, and nothing changed except its keys, connections and counters of slots.
   pub record LosesSenderEnd (f : Fields T U) (i j : ℕ) (x : PublisherFields) (f' : Fields T U) : Type 0 where
     pub agrees : IsDomain f'
-    pub fields : f' ≡ record f { publishers = slice_set f.publishers i (Some (record x { keys = set_place x.keys j None })); connections = f'.connections; books = f'.books }
-    pub channels : ChannelsFollow (λ home. home.publisher ≡ x.id) (λ p q. (state_of (kept_of f)).subscribers q ≡ None) f.connections f'.connections
-    pub state : state_of (kept_of f') ≡ with_channels_of f' (with_sender_side (state_of (kept_of f)) x.id (publisher_of f.books f.connections x).port
-        (disconnected (sender_side (state_of (kept_of f)) x.id (publisher_of f.books f.connections x).port) j (occupant (publisher_of f.books f.connections x).port.ends j)))
-    pub entries : (n : ℕ) (entry : Entry T U) → entries_of (kept_of f') n ≡ Some entry → entries_of (kept_of f) n ≡ Some entry
+    pub fields : f' ≡ record f {
+      publishers = slice_set f.publishers i
+          (Some (record x { keys = set_place x.keys j None }));
+      connections = f'.connections;
+      books = f'.books;
+    }
+    pub channels : ChannelsFollow (λ home. home.publisher ≡ x.id)
+        (λ p q. (state_of (kept_of f)).subscribers q ≡ None) f.connections f'.connections
+    pub state : state_of (kept_of f') ≡ with_channels_of f'
+        (with_sender_side (state_of (kept_of f)) x.id (publisher_of f.books f.connections x).port
+        (disconnected (sender_side (state_of (kept_of f)) x.id (publisher_of f.books f.connections x).port) j
+        (occupant (publisher_of f.books f.connections x).port.ends j)))
+    pub entries : (n : ℕ) (entry : Entry T U) → entries_of (kept_of f') n ≡ Some entry
+        → entries_of (kept_of f) n ≡ Some entry
     pub places : KeepsPlaces f f'

@@ -1,5 +1,6 @@
 -- The fields of a domain, and what they keep. Ports know connections, books and slots by number.
-use Rattle.std.specs.Prelude.{ℕ, Bool, true, false, ◌+◌, ◌==◌, List, [], ◌∷◌, drop, take, map, if◌then◌else◌, nat_lt, slice_get, slice_index, slice_index_or}
+use Rattle.std.specs.Prelude.{ℕ, Bool, true, false, ◌+◌, ◌==◌, List, [], ◌∷◌, drop, take, map, if◌then◌else◌, nat_lt}
+use Rattle.std.specs.Prelude.{slice_get, slice_index, slice_index_or}
 use Rattle.std.specs.declared.option.Option.{Option}
 use Rattle.std.specs.declared.option.Option.TheVariants.{None, Some}
 use Rattle.std.specs.Option.{option_map, option_and_then, option_map_or}
@@ -40,7 +41,8 @@ is_book_of p book = book.publisher == p
 
 -- The number of the message in each slot of the publisher p.
 abbrev pub number_in_slot : Slab Book → (p slot : ℕ) → ℕ
-number_in_slot books p slot = option_map_or (λ (book : Book). slice_index book.numbers slot) (look_up (is_book_of p) books.slots) 0
+number_in_slot books p slot =
+    option_map_or (λ (book : Book). slice_index book.numbers slot) (look_up (is_book_of p) books.slots) 0
 
 -- ---- what lies in slots
 
@@ -54,9 +56,21 @@ module _ {T U : Type 0} where
   -- The message that lies in a slot, by its mark.
   abbrev pub message_of : (publisher number : ℕ) → Header → ContentState T U → SlotMark → KeptMessage T U
   message_of publisher number header content Unwritten =
-      Lent_message number (record { publisher = publisher; header = header; user_header = content.user_header; cells = content.cells; is_written = false })
+      Lent_message number (record {
+        publisher = publisher;
+        header = header;
+        user_header = content.user_header;
+        cells = content.cells;
+        is_written = false;
+      })
   message_of publisher number header content Written =
-      Lent_message number (record { publisher = publisher; header = header; user_header = content.user_header; cells = map Some content.values; is_written = true })
+      Lent_message number (record {
+        publisher = publisher;
+        header = header;
+        user_header = content.user_header;
+        cells = map Some content.values;
+        is_written = true;
+      })
   message_of publisher number header content Sent =
       Sent_message number (record { header = header; user_header = content.user_header; values = content.values })
 
@@ -84,12 +98,13 @@ module _ {T U : Type 0} where
   -- What is kept of the book at a key.
   abbrev pub kept_book : List (Option (List (ContentState T U))) → (key : ℕ) → Option Book → Option (KeptBook T U)
   kept_book contents key book =
-      option_map {T = Book} (λ b. record { publisher = b.publisher; slots = messages_in b (contents_at contents key) }) book
+      option_map {T = Book}
+      (λ b. record { publisher = b.publisher; slots = messages_in b (contents_at contents key) }) book
 
 -- ---- ports and connections
 
--- Of what stands at a publisher's places, that to which its blocked delivery may go: all of it, or none behind the place at which
--- it waits.
+-- Of what stands at a publisher's places, that to which its blocked delivery may go: all of it, or none behind the
+-- place at which it waits.
 abbrev pub within_reach : {A : Type 0} → BlockedDelivery → List A → List A
 within_reach b xs = if b.is_alone then take ((b.progress).place + 1) xs else xs
 
@@ -146,7 +161,12 @@ module _ (books : Slab Book) (connections : Slab Link) where
 
   -- What lies in a connection.
   abbrev pub between_of : Link → Between
-  between_of c = record { publisher = c.home.publisher; subscriber = c.home.subscriber; mailbox = mailbox_of (number_in_slot books c.home.publisher) c; channels = c.channels }
+  between_of c = record {
+    publisher = c.home.publisher;
+    subscriber = c.home.subscriber;
+    mailbox = mailbox_of (number_in_slot books c.home.publisher) c;
+    channels = c.channels;
+  }
 
 -- What the fields keep, beside these boxes.
 abbrev pub keeping : {T U F G : Type 0} → DomainBoxes F G → Fields T U → Kept T U F G

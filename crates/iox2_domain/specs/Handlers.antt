@@ -11,7 +11,8 @@ use Rattle.iox2_domain.specs.declared.handlers.AskedBox.{AskedBox}
 use Rattle.iox2_domain.specs.declared.handlers.HandlerMark.{HandlerMark}
 use Rattle.iox2_domain.specs.declared.handlers.HandlerMark.TheVariants as mark
 use Rattle.iox2_machine.specs.declared.backpressure.BackpressureAction.{BackpressureAction}
-use Rattle.iox2_machine.specs.declared.backpressure.BackpressureAction.TheVariants.{FollowBackpressureyStrategy, Retry, DiscardData, DiscardDataAndFail}
+use Rattle.iox2_machine.specs.declared.backpressure.BackpressureAction.TheVariants.{FollowBackpressureyStrategy, Retry}
+use Rattle.iox2_machine.specs.declared.backpressure.BackpressureAction.TheVariants.{DiscardData, DiscardDataAndFail}
 use Rattle.iox2_machine.specs.declared.degradation.DegradationAction.{DegradationAction}
 use Rattle.iox2_machine.specs.declared.degradation.DegradationAction.TheVariants.{Ignore, Warn, DegradeAndFail}
 
@@ -29,7 +30,8 @@ abbrev pub handler_if_any : Option (HandlerMark BackpressureAction) → Option (
 handler_if_any has = option_map {U = Handler BackpressureAction} handler_of has
 
 -- Where the handler is asked, it asks the box of the publisher with the id.
-abbrev pub AsksFor : {F G : Type 0} → (id : ℕ) → List (PortBox F G) → Option (BackpressureHandler (AskedBox F G)) → Type 0
+abbrev pub AsksFor : {F G : Type 0} → (id : ℕ) → List (PortBox F G) → Option (BackpressureHandler (AskedBox F G))
+    → Type 0
 AsksFor id boxes None = Unit {0}
 AsksFor id boxes (Some (handler.Fixed action)) = Unit {0}
 AsksFor id boxes (Some (handler.Custom asked)) = (asked.id ≡ id) × (asked.boxes.now.boxes ≡ boxes)

@@ -1,5 +1,7 @@
 -- What always holds of the fields of a domain.
-use Rattle.std.specs.Prelude.{◌≡◌, ◌≢◌, ◌⊎◌, ℕ, Bool, true, false, ◌+◌, ◌*◌, ◌<◌, ◌≤◌, ◌==◌, ◌&&◌, if◌then◌else◌, List, [], length, map, max, nat_lt, not, sum_by, slice_get, slice_index, slice_index_or, Contains, IsSomeAnd}
+use Rattle.std.specs.Prelude.{◌≡◌, ◌≢◌, ◌⊎◌, ℕ, Bool, true, false, ◌+◌, ◌*◌, ◌<◌, ◌≤◌, ◌==◌, ◌&&◌, if◌then◌else◌, List}
+use Rattle.std.specs.Prelude.{[], length, map, max, nat_lt, not, sum_by, slice_get, slice_index, slice_index_or}
+use Rattle.std.specs.Prelude.{Contains, IsSomeAnd}
 use Rattle.std.specs.List.{All}
 use Rattle.std.specs.declared.option.Option.{Option}
 use Rattle.std.specs.declared.option.Option.TheVariants.{None, Some}
@@ -72,39 +74,50 @@ pub record HasOpenReceiver (subscribers : List (Option SubscriberFields)) (c : L
   pub is_open : subscriber.is_open ≡ true
 
 -- The publisher has the connection at that key, and its subscriber is open.
-pub record IsBetweenOpen (publishers : List (Option PublisherFields)) (subscribers : List (Option SubscriberFields)) (key : ℕ) (c : Link) : Type 0 where
+pub record IsBetweenOpen (publishers : List (Option PublisherFields)) (subscribers : List (Option SubscriberFields))
+    (key : ℕ) (c : Link) : Type 0 where
   pub sender : SenderHas publishers key c
   pub receiver : HasOpenReceiver subscribers c
 
 -- Every port and every connection know of each other.
 pub record IsLinked {T U : Type 0} (f : Fields T U) : Type 0 where
-  pub senders : (i : ℕ) (x : PublisherFields) → slice_index_or f.publishers i None ≡ Some x → IsSenderLinked x.id f.connections x.keys
+  pub senders : (i : ℕ) (x : PublisherFields) → slice_index_or f.publishers i None ≡ Some x
+      → IsSenderLinked x.id f.connections x.keys
   pub receivers : (i : ℕ) (y : SubscriberFields) → slice_index_or f.subscribers i None ≡ Some y
       → IsReceiverLinked y.id (f.config).subscriber_max_borrowed_samples f.connections y.keys
   pub expired : (i : ℕ) (y : SubscriberFields) → slice_index_or f.subscribers i None ≡ Some y
       → IsReceiverLinked y.id (f.config).subscriber_max_borrowed_samples f.connections (map Some y.expired)
   -- No connection is left that neither of its ports has.
-  pub ends : (key : ℕ) (c : Link) → get f.connections key ≡ Some c → SenderHas f.publishers key c ⊎ ReceiverHas f.subscribers key c
+  pub ends : (key : ℕ) (c : Link) → get f.connections key ≡ Some c
+      → SenderHas f.publishers key c ⊎ ReceiverHas f.subscribers key c
   -- A subscriber knows a connection at the place that this names.
-  pub receiver_places : (i place key : ℕ) (y : SubscriberFields) (c : Link) → slice_index_or f.subscribers i None ≡ Some y
+  pub receiver_places : (i place key : ℕ) (y : SubscriberFields) (c : Link)
+      → slice_index_or f.subscribers i None ≡ Some y
       → slice_index_or y.keys place None ≡ Some key → get f.connections key ≡ Some c → c.home.publisher_place ≡ place
   -- What a connection says of its ports is so while they are there.
   pub knows : KnowsReceivers f.connections (map (option_map details_of) f.subscribers)
-  pub knows_publishers : (key i : ℕ) (c : Link) (x : PublisherFields) → get f.connections key ≡ Some c → slice_index_or f.publishers i None ≡ Some x
+  pub knows_publishers : (key i : ℕ) (c : Link) (x : PublisherFields) → get f.connections key ≡ Some c
+      → slice_index_or f.publishers i None ≡ Some x
       → x.id ≡ c.home.publisher → i ≡ c.home.publisher_place
   -- Both ports of a connection have room for its key at the other's place.
-  pub sender_rooms : (key i : ℕ) (c : Link) (x : PublisherFields) → get f.connections key ≡ Some c → slice_index_or f.publishers i None ≡ Some x
+  pub sender_rooms : (key i : ℕ) (c : Link) (x : PublisherFields) → get f.connections key ≡ Some c
+      → slice_index_or f.publishers i None ≡ Some x
       → x.id ≡ c.home.publisher → c.home.subscriber_place < x.key_room
-  pub receiver_rooms : (key i : ℕ) (c : Link) (y : SubscriberFields) → get f.connections key ≡ Some c → slice_index_or f.subscribers i None ≡ Some y
+  pub receiver_rooms : (key i : ℕ) (c : Link) (y : SubscriberFields) → get f.connections key ≡ Some c
+      → slice_index_or f.subscribers i None ≡ Some y
       → y.id ≡ c.home.subscriber → c.home.publisher_place < y.key_room
   -- As many messages may be borrowed in each connection as the settings say.
-  pub limits : (key : ℕ) (c : Link) → get f.connections key ≡ Some c → c.limit ≡ (f.config).subscriber_max_borrowed_samples
+  pub limits : (key : ℕ) (c : Link) → get f.connections key ≡ Some c
+      → c.limit ≡ (f.config).subscriber_max_borrowed_samples
   -- Each connection has as many channels as the settings say.
-  pub channel_counts : (key : ℕ) (c : Link) → get f.connections key ≡ Some c → length c.channels ≡ channel_count f.config
+  pub channel_counts : (key : ℕ) (c : Link) → get f.connections key ≡ Some c
+      → length c.channels ≡ channel_count f.config
   -- Slots that were given back lie where their publisher reclaims them.
-  pub returned : (key : ℕ) (c : Link) → get f.connections key ≡ Some c → SenderHas f.publishers key c ⊎ (c.returned ≡ [])
+  pub returned : (key : ℕ) (c : Link) → get f.connections key ≡ Some c
+      → SenderHas f.publishers key c ⊎ (c.returned ≡ [])
   -- A connection that is marked as open is one between open ports.
-  pub marked : (key : ℕ) (c : Link) → get f.connections key ≡ Some c → c.is_open ≡ true → IsBetweenOpen f.publishers f.subscribers key c
+  pub marked : (key : ℕ) (c : Link) → get f.connections key ≡ Some c → c.is_open ≡ true
+      → IsBetweenOpen f.publishers f.subscribers key c
 
 -- One where the connection is the subscriber q's.
 abbrev pub one_if_receivers : (q : ℕ) → Option Link → ℕ
@@ -115,10 +128,11 @@ one_if_receivers q (Some c) = if c.home.subscriber == q then 1 else 0
 abbrev pub connection_count : Slab Link → (q : ℕ) → ℕ
 connection_count connections q = sum_by (one_if_receivers q) connections.slots
 
--- Each subscriber's list of expired keys has room for as many keys as it has connections, so that each of them may expire
--- with no allocation.
+-- Each subscriber's list of expired keys has room for as many keys as it has connections, so that each of them may
+-- expire with no allocation.
 pub record HasExpiredRoom (subscribers : List (Option SubscriberFields)) (connections : Slab Link) : Type 0 where
-  pub at : (i : ℕ) (y : SubscriberFields) → slice_index_or subscribers i None ≡ Some y → connection_count connections y.id ≤ y.expired_room
+  pub at : (i : ℕ) (y : SubscriberFields) → slice_index_or subscribers i None ≡ Some y
+      → connection_count connections y.id ≤ y.expired_room
 
 -- ---- books
 
@@ -129,17 +143,19 @@ pub record IsBook {T U : Type 0} (b : Book) (contents : Option (List (ContentSta
 
 -- Each slot from this one on has room for that many units.
 pub record HasRoomFrom {T U : Type 0} (start units : ℕ) (contents : List (ContentState T U)) : Type 0 where
-  pub at : (slot : ℕ) (content : ContentState T U) → start ≤ slot → slice_get contents slot ≡ Some content → units ≤ content.room
+  pub at : (slot : ℕ) (content : ContentState T U) → start ≤ slot → slice_get contents slot ≡ Some content
+      → units ≤ content.room
 
--- The publisher's book names the domain's node. Its last slots are the current segment, and each of these has room for a
--- slice of the segment's length, and for one element at least.
+-- The publisher's book names the domain's node. Its last slots are the current segment, and each of these has room for
+-- a slice of the segment's length, and for one element at least.
 pub record HasBook {T U : Type 0} (f : Fields T U) (x : PublisherFields) : Type 0 where
   pub book : Book
   pub stands : get f.books x.book ≡ Some book
   pub is_its : book.publisher ≡ x.id
   pub node : book.node ≡ (f.config).node_id
   pub slots : length book.holders ≡ x.segment_start + x.slots
-  pub room : IsSomeAnd (slice_index_or f.contents x.book None) (HasRoomFrom x.segment_start (slot_length x.segment_length * (f.config).units_per_element))
+  pub room : IsSomeAnd (slice_index_or f.contents x.book None)
+      (HasRoomFrom x.segment_start (slot_length x.segment_length * (f.config).units_per_element))
 
 -- Each book has its contents, and each publisher its book. Nothing else has contents.
 pub record HasBooks {T U : Type 0} (f : Fields T U) : Type 0 where
@@ -186,12 +202,16 @@ IsLeft next_port publishers b = IsGone next_port publishers b.publisher × IsUse
 
 -- Each book is of a publisher that stands, or is left of one that is gone.
 pub record KeepsBooks (next_port : ℕ) (publishers : List (Option PublisherFields)) (books : Slab Book) : Type 0 where
-  pub at : (key : ℕ) (b : Book) → get books key ≡ Some b → IsOwned publishers key b.publisher ⊎ IsLeft next_port publishers b
+  pub at : (key : ℕ) (b : Book) → get books key ≡ Some b
+      → IsOwned publishers key b.publisher ⊎ IsLeft next_port publishers b
 
 -- The same, except for the book at this key, which may have no holder any more.
-pub record KeepsBooksBut (next_port : ℕ) (publishers : List (Option PublisherFields)) (books : Slab Book) (spared : ℕ) : Type 0 where
-  pub own : (b : Book) → get books spared ≡ Some b → IsOwned publishers spared b.publisher ⊎ IsGone next_port publishers b.publisher
-  pub others : (key : ℕ) (b : Book) → key ≢ spared → get books key ≡ Some b → IsOwned publishers key b.publisher ⊎ IsLeft next_port publishers b
+pub record KeepsBooksBut (next_port : ℕ) (publishers : List (Option PublisherFields)) (books : Slab Book)
+    (spared : ℕ) : Type 0 where
+  pub own : (b : Book) → get books spared ≡ Some b
+      → IsOwned publishers spared b.publisher ⊎ IsGone next_port publishers b.publisher
+  pub others : (key : ℕ) (b : Book) → key ≢ spared → get books key ≡ Some b
+      → IsOwned publishers key b.publisher ⊎ IsLeft next_port publishers b
 
 -- ---- slots
 
@@ -213,10 +233,12 @@ is_loan_in b slot = nat_lt 0 (holders_at b slot) && option_map_or is_lent (slice
 pub record HasLoneLoans (books : Slab Book) : Type 0 where
   pub at : (key slot : ℕ) (b : Book) → get books key ≡ Some b → is_loan_in b slot ≡ true → holders_at b slot ≡ 1
 
--- How often the publisher itself has the slot, as a loan or in its history. Of one that is gone, loans may still be out.
+-- How often the publisher itself has the slot, as a loan or in its history. Of one that is gone, loans may still be
+-- out.
 abbrev pub own_holders : {T U : Type 0} → Fields T U → (p slot : ℕ) → ℕ
 own_holders f p slot =
-    option_map_or (λ (x : PublisherFields). times slot x.loans + times slot (x.history).items) (look_up (is_publisher p) f.publishers)
+    option_map_or (λ (x : PublisherFields). times slot x.loans + times slot (x.history).items)
+    (look_up (is_publisher p) f.publishers)
     (option_map_or (λ b. if is_loan_in b slot then 1 else 0) (look_up (is_book_of p) f.books.slots) 0)
 
 -- Each slot has as many holders as it stands in lists.
@@ -232,12 +254,14 @@ pub record HasNumber (books : Slab Book) (key slot n : ℕ) : Type 0 where
 
 -- No two slots in use have the same number, and each number was given out.
 pub record IsNumbered (next_message : ℕ) (books : Slab Book) : Type 0 where
-  pub one : (key key' slot slot' number : ℕ) → HasNumber books key slot number → HasNumber books key' slot' number → (key ≡ key') × (slot ≡ slot')
+  pub one : (key key' slot slot' number : ℕ) → HasNumber books key slot number → HasNumber books key' slot' number
+      → (key ≡ key') × (slot ≡ slot')
   pub below : (key slot number : ℕ) → HasNumber books key slot number → number < next_message
 
 -- ---- messages
 
--- The elements of a loan or a sent message are as many as its header says, and one where each message is a single value.
+-- The elements of a loan or a sent message are as many as its header says, and one where each message is a single
+-- value.
 pub record HasShape {T U : Type 0} (c : ServiceConfig) (m : KeptMessage T U) : Type 0 where
   pub length : length_of m ≡ (header_of m).number_of_elements * c.units_per_element
   pub single : c.variant ≡ FixedSize → (header_of m).number_of_elements ≡ 1
@@ -257,13 +281,17 @@ cell_lists c max_loaned_samples = lists_for (not (is_single_valued c)) (lists_wa
 
 -- Except in a domain of single values, what lies in slots lies in lists, so that it can be handed out as a slice, and
 -- cells can be handed out as lists too if the settings ask for it.
-pub record HasForms {T U : Type 0} (c : ServiceConfig) (contents : List (Option (List (ContentState T U)))) : Type 0 where
-  pub at : is_single_valued c ≡ false → (key : ℕ) (cs : List (ContentState T U)) → slice_index_or contents key None ≡ Some cs → All (λ content. content.is_in_place ≡ false) cs
-  pub cells : is_single_valued c ≡ false → c.lists_cells ≡ true → (key : ℕ) (cs : List (ContentState T U)) → slice_index_or contents key None ≡ Some cs → All (λ content. 0 < content.lists) cs
+pub record HasForms {T U : Type 0} (c : ServiceConfig)
+    (contents : List (Option (List (ContentState T U)))) : Type 0 where
+  pub at : is_single_valued c ≡ false → (key : ℕ) (cs : List (ContentState T U))
+      → slice_index_or contents key None ≡ Some cs → All (λ content. content.is_in_place ≡ false) cs
+  pub cells : is_single_valued c ≡ false → c.lists_cells ≡ true → (key : ℕ) (cs : List (ContentState T U))
+      → slice_index_or contents key None ≡ Some cs → All (λ content. 0 < content.lists) cs
 
 -- How many cells the slot of the book at the key has.
 abbrev pub cell_count : {T U : Type 0} → List (Option (List (ContentState T U))) → (key slot : ℕ) → ℕ
-cell_count contents key slot = option_map_or (λ content. length content.cells) (slice_get (contents_at contents key) slot) 0
+cell_count contents key slot =
+    option_map_or (λ content. length content.cells) (slice_get (contents_at contents key) slot) 0
 
 -- The mark of the slot of the book at the key.
 abbrev pub mark_at : Slab Book → (key slot : ℕ) → Option SlotMark
@@ -276,9 +304,12 @@ pub record IsUnwrittenLoan (books : Slab Book) (x : PublisherFields) (slot : ℕ
 
 -- Each slot with cells of a publisher that stands is a loan of its that is out and isn't written. So one list of cells
 -- for each loan that it may have out is enough. Its slots have as many lists as `cell_lists` says.
-pub record HasOpenLoans {T U : Type 0} (c : ServiceConfig) (publishers : List (Option PublisherFields)) (books : Slab Book) (contents : List (Option (List (ContentState T U)))) : Type 0 where
-  pub at : (i slot : ℕ) (x : PublisherFields) → slice_index_or publishers i None ≡ Some x → 0 < cell_count contents x.book slot → IsUnwrittenLoan books x slot
-  pub lists : (i : ℕ) (x : PublisherFields) (cs : List (ContentState T U)) → slice_index_or publishers i None ≡ Some x → slice_index_or contents x.book None ≡ Some cs
+pub record HasOpenLoans {T U : Type 0} (c : ServiceConfig) (publishers : List (Option PublisherFields))
+    (books : Slab Book) (contents : List (Option (List (ContentState T U)))) : Type 0 where
+  pub at : (i slot : ℕ) (x : PublisherFields) → slice_index_or publishers i None ≡ Some x
+      → 0 < cell_count contents x.book slot → IsUnwrittenLoan books x slot
+  pub lists : (i : ℕ) (x : PublisherFields) (cs : List (ContentState T U)) → slice_index_or publishers i None ≡ Some x
+      → slice_index_or contents x.book None ≡ Some cs
       → All (λ content. content.lists ≡ cell_lists c x.max_loaned_samples) cs
 
 -- ---- a publisher's segments, and its blocked delivery
@@ -287,8 +318,8 @@ pub record HasOpenLoans {T U : Type 0} (c : ServiceConfig) (publishers : List (O
 abbrev pub LendsBlocked : PublisherFields → Type 0
 LendsBlocked x = (b : BlockedDelivery) → x.blocked ≡ Some b → 0 < times b.slot x.loans
 
--- A static publisher has its first segment alone. The current segment is no shorter than the first one, and where memory
--- grows no shorter than any loan that was granted. It has some slot where the publisher may have a loan.
+-- A static publisher has its first segment alone. The current segment is no shorter than the first one, and where
+-- memory grows no shorter than any loan that was granted. It has some slot where the publisher may have a loan.
 pub record HasSegment (x : PublisherFields) : Type 0 where
   pub static : is_static x.allocation ≡ true → (x.segment_start ≡ 0) × (x.segment_length ≡ x.initial_max_slice_len)
   pub first : x.initial_max_slice_len ≤ x.segment_length
@@ -313,7 +344,8 @@ pub record HasParts {T U : Type 0} (f : Fields T U) : Type 0 where
   pub names : NamesBooks f.books f.connections
   pub counted : IsCounted f
   pub numbered : IsNumbered f.next_message f.books
-  pub publisher_room : (i : ℕ) (x : PublisherFields) → slice_index_or f.publishers i None ≡ Some x → HasPublisherRoom f.config x
+  pub publisher_room : (i : ℕ) (x : PublisherFields) → slice_index_or f.publishers i None ≡ Some x
+      → HasPublisherRoom f.config x
   pub warning_room : (f.warnings).capacity ≡ warning_limit
   pub shapes : HasShapes f
   pub forms : HasForms f.config f.contents
@@ -332,7 +364,8 @@ pub record IsDomain {T U : Type 0} (f : Fields T U) : Type 0 where
 -- The same, except for the book at the key: its publisher is gone, and maybe none of its slots has a holder any more.
 pub record IsDomainBut {T U : Type 0} (key : ℕ) (f : Fields T U) : Type 0 where
   pub parts : HasParts f
-  pub kept_books : (k : ℕ) (b : Book) → k ≢ key → get f.books k ≡ Some b → IsOwned f.publishers k b.publisher ⊎ IsLeft f.next_port f.publishers b
+  pub kept_books : (k : ℕ) (b : Book) → k ≢ key → get f.books k ≡ Some b
+      → IsOwned f.publishers k b.publisher ⊎ IsLeft f.next_port f.publishers b
   pub left_book : (b : Book) → get f.books key ≡ Some b → IsGone f.next_port f.publishers b.publisher
   pub lone : HasLoneLoans f.books
   pub well_formed : IsWellFormed (state_of (kept_of f))

@@ -145,5 +145,7 @@ module _ {T U F G : Type 0} where
   -- What is kept, with the loan n changed so. Nothing else changes.
   abbrev pub with_loan_changed : (n : ℕ) → (Loan T U → Loan T U) → Kept T U F G → Kept T U F G
   with_loan_changed n change kept = record kept {
-    books = map (option_map (λ (book : KeptBook T U). record book { slots = map (option_map (loan_changed n change)) book.slots })) kept.books;
+    books =
+        map (option_map (λ (book : KeptBook T U).
+        record book { slots = map (option_map (loan_changed n change)) book.slots })) kept.books;
   }

@@ -17,13 +17,16 @@ pub record HasLink (connections : Slab Link) (d : Link) : Type 0 where
 
 -- Each connection stands where it stood, with its channels, and no other does.
 pub record SameChannels (old new : Slab Link) : Type 0 where
-  pub same : (key : ℕ) → option_map {U = Home × List Channel} (λ (c : Link). (c.home, c.channels)) (get new key) ≡ option_map (λ (c : Link). (c.home, c.channels)) (get old key)
+  pub same : (key : ℕ) → option_map {U = Home × List Channel} (λ (c : Link). (c.home, c.channels))
+      (get new key) ≡ option_map (λ (c : Link). (c.home, c.channels)) (get old key)
 
 -- No connection stands between p and q.
 abbrev pub NoLink : Slab Link → (p q : ℕ) → Type 0
-NoLink connections p q = (key : ℕ) (c : Link) → get connections key ≡ Some c → c.home.publisher ≡ p → c.home.subscriber ≡ q → ⊥
+NoLink connections p q =
+    (key : ℕ) (c : Link) → get connections key ≡ Some c → c.home.publisher ≡ p → c.home.subscriber ≡ q → ⊥
 
--- The connection is one of these, and was made: its channels are new, none stood there before, and neither port is gone.
+-- The connection is one of these, and was made: its channels are new, none stood there before, and neither port is
+-- gone.
 pub record IsMade (Own : Home → Type 0) (Gone : ℕ → ℕ → Type 0) (old : Slab Link) (d : Link) : Type 0 where
   pub own : Own d.home
   pub is_new : channel_at d.channels ≡ new_channels
@@ -34,4 +37,5 @@ pub record IsMade (Own : Home → Type 0) (Gone : ℕ → ℕ → Type 0) (old :
 -- All others keep their channels.
 pub record ChannelsFollow (Own : Home → Type 0) (Gone : ℕ → ℕ → Type 0) (old new : Slab Link) : Type 0 where
   pub kept : (key : ℕ) (d : Link) → get new key ≡ Some d → HasLink old d ⊎ IsMade Own Gone old d
-  pub lost : (key : ℕ) (c : Link) → get old key ≡ Some c → HasLink new c ⊎ (Own c.home × Gone c.home.publisher c.home.subscriber)
+  pub lost : (key : ℕ) (c : Link) → get old key ≡ Some c
+      → HasLink new c ⊎ (Own c.home × Gone c.home.publisher c.home.subscriber)

@@ -24,7 +24,8 @@ header_for c publisher len = record { node_id = c.node_id; publisher_id = publis
 
 -- The publisher with the slot among its loans, as a loan of `len` elements, and with `segments` segments.
 abbrev pub lending : (len slot segments : ℕ) → PublisherFields → PublisherFields
-lending len slot segments x = record x { loans = x.loans ++ slot ∷ []; longest_granted = max x.longest_granted len; segments = segments }
+lending len slot segments x =
+    record x { loans = x.loans ++ slot ∷ []; longest_granted = max x.longest_granted len; segments = segments }
 
 -- Memory is never refused to a loan of a static publisher, and may be where its memory grows.
 abbrev pub memory_for : AllocationStrategy → Environment
@@ -38,8 +39,8 @@ memory_if_any None = ample_memory
 memory_if_any (Some x) = memory_for x.allocation_strategy
 
 module _ {T U : Type 0} where
-  -- In the slot of these contents a loan of that length may start: there is room for it, and where cells can be handed out
-  -- as lists, the slot has no cells, and fewer slots have some than there are lists.
+  -- In the slot of these contents a loan of that length may start: there is room for it, and where cells can be handed
+  -- out as lists, the slot has no cells, and fewer slots have some than there are lists.
   pub record MayStart (contents : List (ContentState T U)) (slot len : ℕ) : Type 0 where
     pub fit : SomeAt contents slot (λ content. len ≤ content.room)
     pub ended : SomeAt contents slot (λ content. 0 < content.lists → content.cells ≡ [])
@@ -59,16 +60,20 @@ module _ {T U : Type 0} where
     pub number : loan.number ≡ old.next_message
     pub book : loan.book ≡ x.book
 
-  -- A publisher is asked for a loan: it lends a slot, with the segments that it has or with one more, or refuses, and then
-  -- nothing changes in the state.
-  abbrev pub LoanReaches : {A : Type 0} → (is_default : U → Type 0) → (checks : Bool) → (len : ℕ) → Fields T U → PublisherFields → Result A LoanError → Fields T U → Type 0
+  -- A publisher is asked for a loan: it lends a slot, with the segments that it has or with one more, or refuses, and
+  -- then nothing changes in the state.
+  abbrev pub LoanReaches : {A : Type 0} → (is_default : U → Type 0) → (checks : Bool) → (len : ℕ) → Fields T U
+      → PublisherFields → Result A LoanError → Fields T U → Type 0
   LoanReaches is_default checks len f x result f' =
       MatchResult result
       (λ _. (user_header : U) × is_default user_header × (segments : ℕ)
       × GrantLoan (memory_for x.allocation) user_header checks len (state_of (kept_of f)) x.id
-      (loan_granted user_header (state_of (kept_of f)) x.id ((publisher_of f.books f.connections x).port) len segments) None
-      × Reaches f f' (loan_granted user_header (state_of (kept_of f)) x.id ((publisher_of f.books f.connections x).port) len segments))
-      (λ e. ((user_header : U) → GrantLoan (memory_for x.allocation) user_header checks len (state_of (kept_of f)) x.id (state_of (kept_of f)) (Some e))
+      (loan_granted user_header (state_of (kept_of f)) x.id ((publisher_of f.books f.connections x).port) len segments)
+      None
+      × Reaches f f' (loan_granted user_header (state_of (kept_of f)) x.id
+      ((publisher_of f.books f.connections x).port) len segments))
+      (λ e. ((user_header : U) → GrantLoan (memory_for x.allocation) user_header checks len (state_of (kept_of f)) x.id
+      (state_of (kept_of f)) (Some e))
       × Reaches f f' (state_of (kept_of f)))
 
   -- Memory may be refused to a loan of the publisher p only where its memory grows.
@@ -77,7 +82,8 @@ module _ {T U : Type 0} where
 
   -- The publisher p is asked for a loan: it is granted, with a default user header, or refused for this
   -- reason, and then nothing changes.
-  abbrev pub LoanCall : {A : Type 0} → (is_default : U → Type 0) → (checks : Bool) → (len : ℕ) → State T U → (p : ℕ) → Result A LoanError → State T U → Type 0
+  abbrev pub LoanCall : {A : Type 0} → (is_default : U → Type 0) → (checks : Bool) → (len : ℕ) → State T U → (p : ℕ)
+      → Result A LoanError → State T U → Type 0
   LoanCall is_default checks len s p result s' =
       MatchResult result
       (λ _. (user_header : U) × is_default user_header × GrantLoan (loan_memory s p) user_header checks len s p s' None)

@@ -19,7 +19,8 @@ use Rattle.iox2_domain.specs.Reaches.{Reaches}
 module _ {T U : Type 0} where
   -- The publisher's loan n is out and isn't written.
   abbrev pub HoldsUnwritten : State T U → (publisher n : ℕ) → Type 0
-  HoldsUnwritten s publisher n = (l : Loan T U) × (s.loans n ≡ Some l) × (l.publisher ≡ publisher) × (l.is_written ≡ false)
+  HoldsUnwritten s publisher n =
+      (l : Loan T U) × (s.loans n ≡ Some l) × (l.publisher ≡ publisher) × (l.is_written ≡ false)
 
   -- The publisher's loan n is out and written.
   abbrev pub HoldsWritten : State T U → (publisher n : ℕ) → Type 0
@@ -51,15 +52,18 @@ module _ {T U : Type 0} where
 
   -- The contents at the key are there, and P holds of what lies in the slot.
   abbrev pub HasContentIn : Fields T U → (key slot : ℕ) → (ContentState T U → Type 0) → Type 0
-  HasContentIn f key slot P = (contents : List (ContentState T U)) × (slice_index_or f.contents key None ≡ Some contents) × SomeAt contents slot P
+  HasContentIn f key slot P = (contents : List (ContentState T U))
+      × (slice_index_or f.contents key None ≡ Some contents) × SomeAt contents slot P
 
   -- What lies in the slot of the book at the key is changed so.
   abbrev pub with_content_in_slot : Fields T U → (key slot : ℕ) → (ContentState T U → ContentState T U) → Fields T U
-  with_content_in_slot f key slot change = record f { contents = slice_set f.contents key (Some (with_changed (contents_at f.contents key) slot change)) }
+  with_content_in_slot f key slot change =
+      record f { contents = slice_set f.contents key (Some (with_changed (contents_at f.contents key) slot change)) }
 
   -- The slot of the book at the key is marked so.
   abbrev pub with_slot_mark : Fields T U → (key slot : ℕ) → Book → SlotMark → Fields T U
-  with_slot_mark f key slot book mark = record f { books = with_value f.books key (record book { marks = slice_set book.marks slot mark }) }
+  with_slot_mark f key slot book mark =
+      record f { books = with_value f.books key (record book { marks = slice_set book.marks slot mark }) }
 
   -- ---- what a reference into a loan leaves
 

@@ -26,7 +26,8 @@ module _ {T U : Type 0} where
     pub kept_books : KeepsBooksBut new.next_port new.publishers new.books key
     pub state : state_of (kept_of new) ≡ with_channels_of new s
     pub channels : (key : ℕ) (d : Link) → get new.connections key ≡ Some d → HasLink old.connections d
-    pub entries : (n : ℕ) (entry : Entry T U) → entries_of (kept_of new) n ≡ Some entry → entries_of (kept_of old) n ≡ Some entry
+    pub entries : (n : ℕ) (entry : Entry T U) → entries_of (kept_of new) n ≡ Some entry
+        → entries_of (kept_of old) n ≡ Some entry
     pub places : KeepsPlaces old new
     pub complete : KeepsEntries (kept_of new)
 

@@ -16,7 +16,8 @@ use Rattle.iox2_machine.specs.declared.backpressure.BackpressureAction.{Backpres
 use Rattle.iox2_machine.specs.declared.backpressure.BackpressureStrategy.{BackpressureStrategy}
 use Rattle.iox2_machine.specs.declared.degradation.DegradationAction.TheVariants.{Warn}
 use Rattle.iox2_machine.specs.declared.errors.PublisherCreateError.{PublisherCreateError}
-use Rattle.iox2_machine.specs.declared.errors.PublisherCreateError.TheVariants.{UnableToCreatePortTag, ExceedsMaxSupportedPublishers}
+use Rattle.iox2_machine.specs.declared.errors.PublisherCreateError.TheVariants.{UnableToCreatePortTag}
+use Rattle.iox2_machine.specs.declared.errors.PublisherCreateError.TheVariants.{ExceedsMaxSupportedPublishers}
 use Rattle.iox2_domain.specs.Handlers.{handler_of}
 use Rattle.iox2_domain.specs.declared.handlers.HandlerMark.TheVariants as mark
 use Rattle.iox2_domain.specs.declared.options.PublisherOptions.{PublisherOptions}
@@ -37,17 +38,26 @@ static_publisher given handler = record {
 }
 
 -- The same of one whose memory grows so.
-abbrev pub growing_publisher : PublisherOptions → Option (Handler BackpressureAction) → AllocationStrategy → PublisherSettings
-growing_publisher given handler allocation = record (static_publisher given handler) { allocation_strategy = allocation }
+abbrev pub growing_publisher : PublisherOptions → Option (Handler BackpressureAction) → AllocationStrategy
+    → PublisherSettings
+growing_publisher given handler allocation =
+    record (static_publisher given handler) { allocation_strategy = allocation }
 
 -- Those of one without handlers, which warns where it can't make a connection.
-abbrev pub plain_publisher : (max_loaned_samples : ℕ) → BackpressureStrategy → (initial_max_slice_len : ℕ) → PublisherSettings
+abbrev pub plain_publisher : (max_loaned_samples : ℕ) → BackpressureStrategy → (initial_max_slice_len : ℕ)
+    → PublisherSettings
 plain_publisher max_loaned_samples strategy initial_max_slice_len =
-    static_publisher (record { max_loaned_samples = max_loaned_samples; strategy = strategy; degradation = mark.Fixed Warn; initial_max_slice_len = initial_max_slice_len }) None
+    static_publisher (record {
+      max_loaned_samples = max_loaned_samples;
+      strategy = strategy;
+      degradation = mark.Fixed Warn;
+      initial_max_slice_len = initial_max_slice_len;
+    }) None
 
 -- A publisher that was just made with these settings. It has `slots` slots, and room for `loan_room` loans and
 -- `key_room` connections.
-abbrev pub entering_publisher : (id place book : ℕ) → PublisherSettings → (slots loan_room : ℕ) (history : Buffer ℕ) (key_room : ℕ) → PublisherFields
+abbrev pub entering_publisher : (id place book : ℕ) → PublisherSettings
+    → (slots loan_room : ℕ) (history : Buffer ℕ) (key_room : ℕ) → PublisherFields
 entering_publisher id place book given slots loan_room history key_room = record {
   id = id;
   place = place;
@@ -77,12 +87,14 @@ module _ {T U : Type 0} where
   abbrev pub place_for_publisher : Fields T U → Result ℕ PublisherCreateError
   place_for_publisher f =
       if f.next_port == last_number then Err UnableToCreatePortTag
-      else if nat_lt (lowest_empty f.publishers) (f.config).max_publishers then Ok (lowest_empty f.publishers) else Err ExceedsMaxSupportedPublishers
+      else if nat_lt (lowest_empty f.publishers) (f.config).max_publishers then Ok
+      (lowest_empty f.publishers) else Err ExceedsMaxSupportedPublishers
 
 -- A book of the publisher with `slots` slots, which names its node. None of the slots is in use. Their contents are
 -- each without cells and with room for `room` elements, and lie in lists if `in_lists` says so. The cells can then be
 -- handed out for `lists` loans at a time.
-pub record IsNewSegment {T U : Type 0} (book : Book) (contents : List (ContentState T U)) (node publisher slots room : ℕ) (in_lists : Bool) (lists : ℕ) : Type 0 where
+pub record IsNewSegment {T U : Type 0} (book : Book) (contents : List (ContentState T U))
+    (node publisher slots room : ℕ) (in_lists : Bool) (lists : ℕ) : Type 0 where
   pub is_its : book.publisher ≡ publisher
   pub names_node : book.node ≡ node
   pub unused : book.holders ≡ replicate slots 0

@@ -30,4 +30,5 @@ pub record ClearsMarks {T U : Type 0} (f f' : Fields T U) : Type 0 where
 -- The same, and the connection that the publisher at the place i has at the subscriber's place j isn't marked as open.
 pub record ClearsEnd {T U : Type 0} (f : Fields T U) (i j : ℕ) (f' : Fields T U) : Type 0 where
   pub clears : ClearsMarks f f'
-  pub done : (key : ℕ) (c : Link) → get f'.connections key ≡ Some c → c.is_open ≡ true → c.home.publisher_place ≡ i → c.home.subscriber_place ≢ j
+  pub done : (key : ℕ) (c : Link) → get f'.connections key ≡ Some c → c.is_open ≡ true → c.home.publisher_place ≡ i
+      → c.home.subscriber_place ≢ j

@@ -23,6 +23,9 @@ module _ {T U : Type 0} where
   IsAnswer environment s q (Ok waits) s' = HasSamples environment s q s' None waits
   IsAnswer environment s q (Err failure) s' = (waits : Bool) × HasSamples environment s q s' (Some failure) waits
 
-  -- The subscriber q is updated and asked whether any message waits for it, as the machine does, and this is the answer.
-  abbrev pub AnswersAs : Environment → (old : Fields T U) (q : ℕ) → Result Bool ConnectionFailure → (new : Fields T U) → Type 0
-  AnswersAs environment old q result new = (s' : State T U) × Reaches old new s' × IsAnswer environment (state_of (kept_of old)) q result s'
+  -- The subscriber q is updated and asked whether any message waits for it, as the machine does, and this is the
+  -- answer.
+  abbrev pub AnswersAs : Environment → (old : Fields T U) (q : ℕ) → Result Bool ConnectionFailure → (new : Fields T U)
+      → Type 0
+  AnswersAs environment old q result new =
+      (s' : State T U) × Reaches old new s' × IsAnswer environment (state_of (kept_of old)) q result s'

@@ -15,7 +15,8 @@ use Rattle.iox2_connections.specs.Link.{Link}
 pub record Reaches {T U : Type 0} (old new : Fields T U) (s : State T U) : Type 0 where
   pub agrees : IsDomain new
   pub state : state_of (kept_of new) ≡ s
-  pub entries : (n : ℕ) (entry : Entry T U) → entries_of (kept_of new) n ≡ Some entry → entries_of (kept_of old) n ≡ Some entry
+  pub entries : (n : ℕ) (entry : Entry T U) → entries_of (kept_of new) n ≡ Some entry
+      → entries_of (kept_of old) n ≡ Some entry
   pub places : KeepsPlaces old new
 
 -- The fields keep this state afterwards, and no entry that they didn't keep before. They agree, except that maybe
@@ -24,5 +25,6 @@ pub record ReachesBut {T U : Type 0} (key : ℕ) (old new : Fields T U) (s : Sta
   pub agrees : IsDomainBut key new
   pub state : state_of (kept_of new) ≡ s
   pub channels : (k : ℕ) (d : Link) → get new.connections k ≡ Some d → HasLink old.connections d
-  pub entries : (n : ℕ) (entry : Entry T U) → entries_of (kept_of new) n ≡ Some entry → entries_of (kept_of old) n ≡ Some entry
+  pub entries : (n : ℕ) (entry : Entry T U) → entries_of (kept_of new) n ≡ Some entry
+      → entries_of (kept_of old) n ≡ Some entry
   pub places : KeepsPlaces old new

@@ -9,7 +9,8 @@ use Rattle.iox2_connections.specs.Link.{Link}
 use Rattle.iox2_machine.specs.machine.Records.{Environment}
 use Rattle.iox2_slots.specs.SlotBook.{Book}
 use Rattle.iox2_machine.specs.machine.State.{State}
-use Rattle.iox2_machine.specs.machine.Receives.{ReceiveResult, Got_sample, No_sample, Receive_error, TakeSample, Receive}
+use Rattle.iox2_machine.specs.machine.Receives.{ReceiveResult, Got_sample, No_sample, Receive_error, TakeSample}
+use Rattle.iox2_machine.specs.machine.Receives.{Receive}
 use Rattle.iox2_machine.specs.declared.errors.ReceiveError.{ReceiveError}
 use Rattle.iox2_connections.specs.declared.receiver.Taken.{Taken}
 use Rattle.iox2_domain.specs.Kept.{state_of}
@@ -23,7 +24,8 @@ receive_result (Ok None) = No_sample
 receive_result (Ok (Some receipt)) = Got_sample receipt.publisher receipt.sample.number
 receive_result (Err e) = Receive_error e
 
--- The receipt of a message that was taken: the sample is named and lies as the message does, and has the number of its slot.
+-- The receipt of a message that was taken: the sample is named and lies as the message does, and has the number of its
+-- slot.
 pub record IsReceiptFor (books : Slab Book) (taken : Taken) (receipt : Receipt) : Type 0 where
   pub book : Book
   pub has_book : get books (taken.home).book ≡ Some book
@@ -35,8 +37,8 @@ pub record IsReceiptFor (books : Slab Book) (taken : Taken) (receipt : Receipt) 
   pub slot_is : receipt.sample.slot ≡ taken.slot
 
 module _ {T U : Type 0} where
-  -- The sample of the receipt is the subscriber q's. The connection that it names stands between the receipt's publisher and q,
-  -- the book is that publisher's, and the slot that it names is borrowed there and has its number.
+  -- The sample of the receipt is the subscriber q's. The connection that it names stands between the receipt's
+  -- publisher and q, the book is that publisher's, and the slot that it names is borrowed there and has its number.
   pub record LiesAt (f : Fields T U) (q : ℕ) (receipt : Receipt) : Type 0 where
     pub connection : Link
     pub stands : get f.connections receipt.sample.connection ≡ Some connection
@@ -57,10 +59,13 @@ module _ {T U : Type 0} where
   abbrev pub TakesAs : (old : Fields T U) (q : ℕ) → Result (Option Receipt) ReceiveError → (new : Fields T U) → Type 0
   TakesAs old q result new =
       (s' : State T U) × Reaches old new s'
-      × MatchOption ((state_of (kept_of old)).subscribers q) ⊥ (λ y. TakeSample (state_of (kept_of old)) q y s' (receive_result result))
+      × MatchOption ((state_of (kept_of old)).subscribers q) ⊥
+      (λ y. TakeSample (state_of (kept_of old)) q y s' (receive_result result))
       × LiesIfAny new q result
 
   -- The subscriber q receives, as the machine does, and what it receives lies where it is said.
-  abbrev pub ReceivesAs : (environment : Environment) (old : Fields T U) (q : ℕ) → Result (Option Receipt) ReceiveError → (new : Fields T U) → Type 0
+  abbrev pub ReceivesAs : (environment : Environment) (old : Fields T U) (q : ℕ) → Result (Option Receipt) ReceiveError
+      → (new : Fields T U) → Type 0
   ReceivesAs environment old q result new =
-      (s' : State T U) × Reaches old new s' × Receive environment (state_of (kept_of old)) q s' (receive_result result) × LiesIfAny new q result
+      (s' : State T U) × Reaches old new s' × Receive environment (state_of (kept_of old)) q s' (receive_result result)
+      × LiesIfAny new q result

@@ -36,7 +36,8 @@ LiesBorrowedInSlot f subscriber number at =
 
 -- The sample lies where it says that it is looked for first.
 abbrev pub LiesAtHint : {T U : Type 0} → Fields T U → SampleAt → Type 0
-LiesAtHint f sample = LiesBorrowed f sample.subscriber sample.number (record { connection = sample.connection; book = sample.book; slot = sample.slot })
+LiesAtHint f sample = LiesBorrowed f sample.subscriber sample.number
+    (record { connection = sample.connection; book = sample.book; slot = sample.slot })
 
 -- The sample lies where it says, in a connection that is marked as open.
 pub record IsReturnable {T U : Type 0} (f : Fields T U) (sample : SampleAt) : Type 0 where

@@ -69,7 +69,8 @@ subscriber_but_room y = with_receiver_rooms 0 0 y
 
 -- The key that the port at a place has for its connection at a place of the other side, where a port has these keys.
 abbrev pub key_at : {A : Type 0} → (A → List (Option ℕ)) → List (Option A) → (at place : ℕ) → Option ℕ
-key_at {A} keys ports at place = option_and_then (λ (x : A). slice_index_or (keys x) place None) (slice_index_or ports at None)
+key_at {A} keys ports at place =
+    option_and_then (λ (x : A). slice_index_or (keys x) place None) (slice_index_or ports at None)
 
 -- The key of the publisher's connection at a subscriber's place.
 abbrev pub sender_key : List (Option PublisherFields) → (at place : ℕ) → Option ℕ
@@ -81,7 +82,8 @@ receiver_key subscribers at place = key_at (λ (y : SubscriberFields). y.keys) s
 
 -- An open subscriber stands at the place.
 abbrev pub is_open_subscriber : List (Option SubscriberFields) → (place : ℕ) → Bool
-is_open_subscriber subscribers place = option_map_or (λ (y : SubscriberFields). y.is_open) (slice_index_or subscribers place None) false
+is_open_subscriber subscribers place =
+    option_map_or (λ (y : SubscriberFields). y.is_open) (slice_index_or subscribers place None) false
 
 -- The key, where it leads to a connection of the publisher p.
 abbrev pub key_from : Slab Link → (p : ℕ) → Option ℕ → Option ℕ
@@ -94,14 +96,18 @@ pub record MakesConnection (old : Slab Link) (home : Home) (buffer limit count k
 
 -- Where the connection stands of the publisher x at the place i and the subscriber y at the place j.
 abbrev pub home_of : (i j : ℕ) → PublisherFields → SubscriberFields → Home
-home_of i j x y = record { publisher = x.id; subscriber = y.id; publisher_place = i; subscriber_place = j; book = x.book }
+home_of i j x y =
+    record { publisher = x.id; subscriber = y.id; publisher_place = i; subscriber_place = j; book = x.book }
 
 -- What a handler is told of the connection that was to stand there, in the service with this number.
 abbrev pub refused_between : (service_id : ℕ) → Home → DegradationInfo
-refused_between service_id home = record { service_id = service_id; sender_port_id = home.publisher; receiver_port_id = home.subscriber }
+refused_between service_id home =
+    record { service_id = service_id; sender_port_id = home.publisher; receiver_port_id = home.subscriber }
 
--- A publisher stands at the place i, and a subscriber with that buffer at the place j; this is where their connection stands.
-pub record StandApart (publishers : List (Option PublisherFields)) (subscribers : List (Option SubscriberFields)) (i j : ℕ) (home : Home) (buffer : ℕ) : Type 0 where
+-- A publisher stands at the place i, and a subscriber with that buffer at the place j; this is where their connection
+-- stands.
+pub record StandApart (publishers : List (Option PublisherFields)) (subscribers : List (Option SubscriberFields))
+    (i j : ℕ) (home : Home) (buffer : ℕ) : Type 0 where
   pub publisher : PublisherFields
   pub subscriber : SubscriberFields
   pub publisher_stands : slice_index_or publishers i None ≡ Some publisher
@@ -111,7 +117,8 @@ pub record StandApart (publishers : List (Option PublisherFields)) (subscribers 
 
 -- No delivery of the publisher at the place is blocked.
 abbrev pub IsUnblockedAt : List (Option PublisherFields) → (place : ℕ) → Type 0
-IsUnblockedAt publishers place = (x : PublisherFields) → slice_index_or publishers place None ≡ Some x → x.blocked ≡ None
+IsUnblockedAt publishers place =
+    (x : PublisherFields) → slice_index_or publishers place None ≡ Some x → x.blocked ≡ None
 
 -- The port at the place is due for an update, where a port is due so.
 abbrev pub is_due_at : {A : Type 0} → (A → Bool) → List (Option A) → (place : ℕ) → Bool

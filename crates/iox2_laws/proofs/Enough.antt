@@ -8,7 +8,8 @@ use Rattle.iox2_machine.specs.machine.Limits.{buffer_limit, channel_count}
 use Rattle.iox2_machine.specs.machine.Places.{occupants}
 use Rattle.iox2_machine.specs.machine.Mailbox.{numbers_in, empty_mailbox}
 use Rattle.iox2_machine.specs.machine.State.{State, fresh, held}
-use Rattle.iox2_machine.specs.machine.WellFormed.{PlacesAgree, PublisherIsWellFormed, MailboxIsWellFormed, IsWellFormed, HoldsAtMostWorstCase}
+use Rattle.iox2_machine.specs.machine.WellFormed.{PlacesAgree, PublisherIsWellFormed, MailboxIsWellFormed, IsWellFormed}
+use Rattle.iox2_machine.specs.machine.WellFormed.{HoldsAtMostWorstCase}
 use Rattle.iox2_machine.specs.declared.service_config.ServiceConfig.{ServiceConfig}
 use Rattle.iox2_laws.proofs.NumberLemmas.{size_le_length, length-flat_map}
 use Rattle.iox2_laws.proofs.PlaceLemmas.{length-occupants_le}
@@ -66,7 +67,8 @@ regroup a n d = grind arith
 
 module _ {T U : Type 0} (s : State T U) (w : IsWellFormed s) where
   -- a mailbox has no more numbers than wait and are borrowed at most
-  pub length-mailbox_le : (p q : ℕ) → length (numbers_in (s.mailboxes p q)) ≤ channel_count s.config * (buffer_limit s.config + (s.config).subscriber_max_borrowed_samples)
+  pub length-mailbox_le : (p q : ℕ) → length (numbers_in (s.mailboxes p q)) ≤ channel_count s.config
+      * (buffer_limit s.config + (s.config).subscriber_max_borrowed_samples)
   length-mailbox_le p q =
       let m : MailboxIsWellFormed s p q = w.mailboxes p q in
       let channels : ℕ = channel_count s.config in
@@ -74,7 +76,8 @@ module _ {T U : Type 0} (s : State T U) (w : IsWellFormed s) where
       let few : length (numbers_in (s.mailboxes p q)) ≤ channels * buffer_limit s.config + borrows =
       length-numbers_in (buffer_limit s.config) borrows channels (s.mailboxes p q) (omega arith) m.within m.others in
       let more : borrows ≤ channels * borrows = more_factors channels borrows (omega arith) in
-      let split : channels * (buffer_limit s.config + borrows) ≡ channels * buffer_limit s.config + channels * borrows = split_times channels (buffer_limit s.config) borrows in
+      let split : channels * (buffer_limit s.config + borrows) ≡ channels * buffer_limit s.config + channels * borrows =
+      split_times channels (buffer_limit s.config) borrows in
       omega (arith, few, more, split)
 
   -- no publisher holds more than the worst case
@@ -83,11 +86,14 @@ module _ {T U : Type 0} (s : State T U) (w : IsWellFormed s) where
       let each : ℕ = buffer_limit s.config + (s.config).subscriber_max_borrowed_samples in
       let most : ℕ = channel_count s.config * each in
       let b : PublisherIsWellFormed s p x = w.publishers p x e in
-      let boxes : length (flat_map (λ q. numbers_in (s.mailboxes p q)) (occupants x.ends)) ≤ length (occupants x.ends) * most =
+      let boxes : length (flat_map (λ q. numbers_in (s.mailboxes p q)) (occupants x.ends)) ≤ length
+      (occupants x.ends) * most =
       length-flat_map (λ q. numbers_in (s.mailboxes p q)) most (length-mailbox_le p) (occupants x.ends) in
-      let ends : length (occupants x.ends) ≤ (s.config).max_subscribers = omega (arith, length-occupants_le x.ends, b.ends_bound) in
+      let ends : length (occupants x.ends) ≤ (s.config).max_subscribers =
+      omega (arith, length-occupants_le x.ends, b.ends_bound) in
       let times : length (occupants x.ends) * most ≤ (s.config).max_subscribers * most = more_times _ _ _ ends in
-      let all : (s.config).max_subscribers * most ≡ (s.config).max_subscribers * channel_count s.config * each = regroup _ _ _ in
+      let all : (s.config).max_subscribers * most ≡ (s.config).max_subscribers * channel_count s.config * each =
+      regroup _ _ _ in
       omega (
         arith,
         size_le_length (held s p x),

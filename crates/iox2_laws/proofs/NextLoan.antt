@@ -19,7 +19,8 @@ module _ {T U : Type 0} (environment : Environment) (s : State T U) where
     pub next : s'.next_message ≡ s.next_message + 1
     pub others : (n : ℕ) → n < s.next_message → s'.loans n ≡ s.loans n
 
-  granted_next : (default_header : U) (p : ℕ) (x : Publisher) (len segments : ℕ) → IsNextLoan p (loan_granted default_header s p x len segments)
+  granted_next : (default_header : U) (p : ℕ) (x : Publisher) (len segments : ℕ)
+      → IsNextLoan p (loan_granted default_header s p x len segments)
   granted_next default_header p x len segments = record {
     loan = _;
     there = put_at-same s.loans s.next_message _;
@@ -29,12 +30,16 @@ module _ {T U : Type 0} (environment : Environment) (s : State T U) where
     others = λ n low. put_at-other s.loans s.next_message _ n (ne_eqb n s.next_message (λ e. omega (arith, low, e)));
   }
 
-  pub loan_next : (default_header : U) (checks_length : Bool) (len p : ℕ) (s' : State T U) → GrantLoan environment default_header checks_length len s p s' None → IsNextLoan p s'
+  pub loan_next : (default_header : U) (checks_length : Bool) (len p : ℕ) (s' : State T U)
+      → GrantLoan environment default_header checks_length len s p s' None → IsNextLoan p s'
   loan_next default_header checks_length len p s' h =
-      grant_cases environment default_header checks_length len s p s' (IsNextLoan p s') None h (λ e _ some. absurd (none-some e some))
+      grant_cases environment default_header checks_length len s p s' (IsNextLoan p s') None h
+      (λ e _ some. absurd (none-some e some))
       (λ x _ grants. subst (IsNextLoan p) (sym grants.4) (granted_next default_header p x len grants.0))
 
   -- a loan that was refused changed nothing
-  pub loan_refused : (default_header : U) (checks_length : Bool) (len p : ℕ) (s' : State T U) (e : LoanError) → GrantLoan environment default_header checks_length len s p s' (Some e) → s' ≡ s
+  pub loan_refused : (default_header : U) (checks_length : Bool) (len p : ℕ) (s' : State T U) (e : LoanError)
+      → GrantLoan environment default_header checks_length len s p s' (Some e) → s' ≡ s
   loan_refused default_header checks_length len p s' e h =
-      grant_cases environment default_header checks_length len s p s' (s' ≡ s) (Some e) h (λ _ same _. same) (λ x _ grants. absurd (none-some e (sym grants.5)))
+      grant_cases environment default_header checks_length len s p s' (s' ≡ s) (Some e) h (λ _ same _. same)
+      (λ x _ grants. absurd (none-some e (sym grants.5)))

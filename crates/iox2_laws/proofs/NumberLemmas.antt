@@ -1,6 +1,8 @@
 -- Lists of numbers: membership, distinctness, ends of lists, and how many different numbers there are.
-use Rattle.std.proofs.Common.{◌≡◌, ℕ, zero, suc, ◌+◌, ◌*◌, ◌-◌, ◌≤◌, Bool, true, false, cond, not, ◌&&◌, ◌||◌, List, [], ◌∷◌, ◌++◌, length, drop, refl, sym, ap, ◌∙◌, arith, eqb, ⊎_elim, ◌⊎◌, inl, inr}
-use Rattle.std.proofs.lemmas.Bool.{eqb-true, eqb-false, eq-eqb, true≢false, or_cases, or_left, or_right, or_parts, ne_eqb}
+use Rattle.std.proofs.Common.{◌≡◌, ℕ, zero, suc, ◌+◌, ◌*◌, ◌-◌, ◌≤◌, Bool, true, false, cond, not, ◌&&◌, ◌||◌, List, []}
+use Rattle.std.proofs.Common.{◌∷◌, ◌++◌, length, drop, refl, sym, ap, ◌∙◌, arith, eqb, ⊎_elim, ◌⊎◌, inl, inr}
+use Rattle.std.proofs.lemmas.Bool.{eqb-true, eqb-false, eq-eqb, true≢false, or_cases, or_left, or_right, or_parts}
+use Rattle.std.proofs.lemmas.Bool.{ne_eqb}
 use Rattle.std.proofs.lemmas.List.{length-append, length-drop}
 use Rattle.std.proofs.lemmas.List.Folds.{list_any-append}
 use Rattle.std.specs.List.{flat_map, list_all}
@@ -11,7 +13,8 @@ pub contains-append : (xs ys : List ℕ) (n : ℕ) → contains (xs ++ ys) n ≡
 contains-append xs ys n = list_any-append (λ m. eqb m n) xs ys
 
 -- a number of a list that was joined stands in one of the two
-pub contains_in_append : (xs ys : List ℕ) (n : ℕ) → contains (xs ++ ys) n ≡ true → (contains xs n ≡ true) ⊎ (contains ys n ≡ true)
+pub contains_in_append : (xs ys : List ℕ) (n : ℕ) → contains (xs ++ ys) n ≡ true
+    → (contains xs n ≡ true) ⊎ (contains ys n ≡ true)
 contains_in_append xs ys n h = or_cases (contains xs n) (contains ys n) (sym (contains-append xs ys n) ∙ h)
 
 -- what stands in the first list stands in the joined one
@@ -23,7 +26,8 @@ pub contains_right : (xs ys : List ℕ) (n : ℕ) → contains ys n ≡ true →
 contains_right xs ys n h = contains-append xs ys n ∙ or_right (contains xs n) (contains ys n) h
 
 -- what stands in neither list doesn't stand in the joined one
-pub absent_in_append : (xs ys : List ℕ) (n : ℕ) → contains xs n ≡ false → contains ys n ≡ false → contains (xs ++ ys) n ≡ false
+pub absent_in_append : (xs ys : List ℕ) (n : ℕ) → contains xs n ≡ false → contains ys n ≡ false
+    → contains (xs ++ ys) n ≡ false
 absent_in_append xs ys n h k = rw (contains-append xs ys n, h) k
 
 -- what doesn't stand in the joined list doesn't stand in the first
@@ -95,8 +99,10 @@ IsOnce-last_n k xs o = IsOnce-drop (length xs - k) xs o
 pub IsOnce-push : (xs : List ℕ) (n : ℕ) → IsOnce xs → contains xs n ≡ false → IsOnce (xs ++ n ∷ [])
 IsOnce-push [] n o absent = (refl, tt)
 IsOnce-push (x ∷ xs) n o absent =
-    let apart : (eqb x n ≡ false) × (contains xs n ≡ false) = or_parts (eqb x n) (contains xs n) absent in
-    (absent_in_append xs (n ∷ []) x o.0 (absent_one n x (λ e. eqb-false x n apart.0 (sym e))), IsOnce-push xs n o.1 apart.1)
+    let apart : (eqb x n ≡ false) × (contains xs n ≡ false) = or_parts (eqb x n) (contains xs n) absent in (
+      absent_in_append xs (n ∷ []) x o.0 (absent_one n x (λ e. eqb-false x n apart.0 (sym e))),
+      IsOnce-push xs n o.1 apart.1,
+    )
 
 -- the first part of a list without repetition has none
 pub IsOnce-left : (xs ys : List ℕ) → IsOnce (xs ++ ys) → IsOnce xs
@@ -112,21 +118,27 @@ IsOnce-right (x ∷ xs) ys o = IsOnce-right xs ys o.1
 pub IsOnce-apart : (xs ys : List ℕ) → IsOnce (xs ++ ys) → (n : ℕ) → contains xs n ≡ true → contains ys n ≡ false
 IsOnce-apart [] ys o n h = absurd (true≢false (sym h))
 IsOnce-apart (x ∷ xs) ys o n h =
-    ⊎_elim (λ e. ap (contains ys) (sym e) ∙ absent_right xs ys x o.0) (λ r. IsOnce-apart xs ys o.1 n r) (contains_in_cons x n xs h)
+    ⊎_elim (λ e. ap (contains ys) (sym e) ∙ absent_right xs ys x o.0) (λ r. IsOnce-apart xs ys o.1 n r)
+    (contains_in_cons x n xs h)
 
 -- two lists without repetition that share no number have none together
-pub IsOnce-append : (xs ys : List ℕ) → IsOnce xs → IsOnce ys → ((n : ℕ) → contains xs n ≡ true → contains ys n ≡ false) → IsOnce (xs ++ ys)
+pub IsOnce-append : (xs ys : List ℕ) → IsOnce xs → IsOnce ys → ((n : ℕ) → contains xs n ≡ true → contains ys n ≡ false)
+    → IsOnce (xs ++ ys)
 IsOnce-append [] ys o p apart = p
-IsOnce-append (x ∷ xs) ys o p apart =
-    (absent_in_append xs ys x o.0 (apart x (contains_first x xs)), IsOnce-append xs ys o.1 p (λ n h. apart n (contains_later x n xs h)))
+IsOnce-append (x ∷ xs) ys o p apart = (
+  absent_in_append xs ys x o.0 (apart x (contains_first x xs)),
+  IsOnce-append xs ys o.1 p (λ n h. apart n (contains_later x n xs h)),
+)
 
 -- what is left after a number was taken out was in the list
 pub contains_in_without : (n m : ℕ) (xs : List ℕ) → contains (without n xs) m ≡ true → contains xs m ≡ true
 contains_in_without n m [] h = h
 contains_in_without n m (k ∷ xs) h =
-    elim (eqb k n) as (λ b. contains (cond (not b) (k ∷ without n xs) (without n xs)) m ≡ true → contains (k ∷ xs) m ≡ true) [
+    elim (eqb k n) as (λ b. contains (cond (not b) (k ∷ without n xs) (without n xs)) m ≡ true
+    → contains (k ∷ xs) m ≡ true) [
       | true ↦ λ h. contains_later k m xs (contains_in_without n m xs h)
-      | false ↦ λ h. ⊎_elim (λ km. or_left (eqb k m) (contains xs m) km) (λ r. contains_later k m xs (contains_in_without n m xs r)) (or_cases (eqb k m) (contains (without n xs) m) h)
+      | false ↦ λ h. ⊎_elim (λ km. or_left (eqb k m) (contains xs m) km)
+          (λ r. contains_later k m xs (contains_in_without n m xs r)) (or_cases (eqb k m) (contains (without n xs) m) h)
     ] h
 
 -- a list without repetition has none after a number was taken out
@@ -135,7 +147,10 @@ IsOnce-without n [] o = tt
 IsOnce-without n (k ∷ xs) o =
     elim (eqb k n) as (λ b. IsOnce (cond (not b) (k ∷ without n xs) (without n xs))) [
       | true ↦ IsOnce-without n xs o.1
-      | false ↦ (absent_from (without n xs) k (λ h. true≢false (sym (contains_in_without n k xs h) ∙ o.0)), IsOnce-without n xs o.1)
+      | false ↦ (
+        absent_from (without n xs) k (λ h. true≢false (sym (contains_in_without n k xs h) ∙ o.0)),
+        IsOnce-without n xs o.1,
+      )
     ]
 
 -- a number that was taken out is gone
@@ -148,12 +163,16 @@ contains-without_same n (k ∷ xs) =
     ] refl
 
 -- another number than the one taken out stays
-pub contains-without_other : (n m : ℕ) (xs : List ℕ) → eqb m n ≡ false → contains xs m ≡ true → contains (without n xs) m ≡ true
+pub contains-without_other : (n m : ℕ) (xs : List ℕ) → eqb m n ≡ false → contains xs m ≡ true
+    → contains (without n xs) m ≡ true
 contains-without_other n m [] apart h = h
 contains-without_other n m (k ∷ xs) apart h =
     elim (eqb k n) as (λ b. eqb k n ≡ b → contains (cond (not b) (k ∷ without n xs) (without n xs)) m ≡ true) [
-      | true ↦ λ e. ⊎_elim (λ km. absurd (eqb-false m n apart (sym km ∙ eqb-true k n e))) (λ r. contains-without_other n m xs apart r) (contains_in_cons k m xs h)
-      | false ↦ λ _. ⊎_elim (λ km. or_left (eqb k m) (contains (without n xs) m) km) (λ r. contains_later k m (without n xs) (contains-without_other n m xs apart r)) (or_cases (eqb k m) (contains xs m) h)
+      | true ↦ λ e. ⊎_elim (λ km. absurd (eqb-false m n apart (sym km ∙ eqb-true k n e)))
+          (λ r. contains-without_other n m xs apart r) (contains_in_cons k m xs h)
+      | false ↦ λ _. ⊎_elim (λ km. or_left (eqb k m) (contains (without n xs) m) km)
+          (λ r. contains_later k m (without n xs) (contains-without_other n m xs apart r))
+          (or_cases (eqb k m) (contains xs m) h)
     ] refl
 
 -- a list from which a number was taken out is no longer
@@ -176,7 +195,8 @@ without_absent n (k ∷ xs) h =
 pub length-without : (n : ℕ) (xs : List ℕ) → IsOnce xs → contains xs n ≡ true → suc (length (without n xs)) ≡ length xs
 length-without n [] o h = absurd (true≢false (sym h))
 length-without n (k ∷ xs) o h =
-    elim (eqb k n) as (λ b. eqb k n ≡ b → (b || contains xs n) ≡ true → suc (length (cond (not b) (k ∷ without n xs) (without n xs))) ≡ suc (length xs)) [
+    elim (eqb k n) as (λ b. eqb k n ≡ b → (b || contains xs n) ≡ true
+    → suc (length (cond (not b) (k ∷ without n xs) (without n xs))) ≡ suc (length xs)) [
       | true ↦ λ e _. ap (λ r. suc (length r)) (without_absent n xs (ap (contains xs) (sym (eqb-true k n e)) ∙ o.0))
       | false ↦ λ _ h. ap suc (length-without n xs o.1 h)
     ] refl h
@@ -185,7 +205,8 @@ length-without n (k ∷ xs) o h =
 pub contains-distinct : (xs : List ℕ) (n : ℕ) → contains (distinct xs) n ≡ contains xs n
 contains-distinct [] n = refl
 contains-distinct (k ∷ xs) n =
-    elim (contains xs k) as (λ b. contains xs k ≡ b → contains (cond b (distinct xs) (k ∷ distinct xs)) n ≡ (eqb k n || contains xs n)) [
+    elim (contains xs k) as (λ b. contains xs k ≡ b
+    → contains (cond b (distinct xs) (k ∷ distinct xs)) n ≡ (eqb k n || contains xs n)) [
       | true ↦ λ e.
           elim (eqb k n) as (λ b. eqb k n ≡ b → contains (distinct xs) n ≡ (b || contains xs n)) [
             | true ↦ λ same. contains-distinct xs n ∙ ap (contains xs) (sym (eqb-true k n same)) ∙ e
@@ -209,13 +230,15 @@ all_pass test [] all = refl
 all_pass test (n ∷ ns) all = ap (λ (b : Bool). b && list_all test ns) (all n) ∙ all_pass test ns all
 
 -- of two lists without repetition, one all of whose numbers stand in the other is no longer
-pub length_le : (xs ys : List ℕ) → IsOnce xs → IsOnce ys → ((n : ℕ) → contains xs n ≡ true → contains ys n ≡ true) → length xs ≤ length ys
+pub length_le : (xs ys : List ℕ) → IsOnce xs → IsOnce ys → ((n : ℕ) → contains xs n ≡ true → contains ys n ≡ true)
+    → length xs ≤ length ys
 length_le [] ys o p each = omega arith
 length_le (x ∷ xs) ys o p each =
     let here : contains ys x ≡ true = each x (contains_first x xs) in
     let less : length xs ≤ length (without x ys) =
     length_le xs (without x ys) o.1 (IsOnce-without x ys p) (λ m h.
-    contains-without_other x m ys (ne_eqb m x (λ same. true≢false (sym h ∙ ap (contains xs) same ∙ o.0))) (each m (contains_later x m xs h))) in
+    contains-without_other x m ys (ne_eqb m x (λ same. true≢false (sym h ∙ ap (contains xs) same ∙ o.0)))
+    (each m (contains_later x m xs h))) in
     omega (arith, length-without x ys p here)
 
 -- a list all of whose numbers stand in the other has no more different ones
@@ -242,23 +265,27 @@ size_cons_le k ys =
     ]
 
 -- at most one more, where the numbers are those of the other list and one further
-pub size_le_one_more : (xs ys : List ℕ) (k : ℕ) → ((n : ℕ) → contains xs n ≡ true → (n ≡ k) ⊎ (contains ys n ≡ true)) → size xs ≤ size ys + 1
+pub size_le_one_more : (xs ys : List ℕ) (k : ℕ) → ((n : ℕ) → contains xs n ≡ true → (n ≡ k) ⊎ (contains ys n ≡ true))
+    → size xs ≤ size ys + 1
 size_le_one_more xs ys k each =
     let some : size xs ≤ size (k ∷ ys) = size_le xs (k ∷ ys) (λ n h.
     ⊎_elim (λ e. or_left (eqb k n) (contains ys n) (eq-eqb k n (sym e))) (λ r. contains_later k n ys r) (each n h)) in
     omega (arith, size_cons_le k ys)
 
 -- a number of a list of lists stands in one of them
-pub contains_in_flat_map : (f : ℕ → List ℕ) (xs : List ℕ) (n : ℕ) → contains (flat_map f xs) n ≡ true → (x : ℕ) × (contains xs x ≡ true) × (contains (f x) n ≡ true)
+pub contains_in_flat_map : (f : ℕ → List ℕ) (xs : List ℕ) (n : ℕ) → contains (flat_map f xs) n ≡ true
+    → (x : ℕ) × (contains xs x ≡ true) × (contains (f x) n ≡ true)
 contains_in_flat_map f [] n h = absurd (true≢false (sym h))
 contains_in_flat_map f (x ∷ xs) n h =
     ⊎_elim (λ here. (x, contains_first x xs, here))
-    (λ later. let found : (y : ℕ) × (contains xs y ≡ true) × (contains (f y) n ≡ true) = contains_in_flat_map f xs n later in
+    (λ later. let found : (y : ℕ) × (contains xs y ≡ true)
+    × (contains (f y) n ≡ true) = contains_in_flat_map f xs n later in
     (found.0, contains_later x found.0 xs found.1, found.2))
     (contains_in_append (f x) (flat_map f xs) n h)
 
 -- a number of one of the lists stands in all of them joined
-pub contains-flat_map : (f : ℕ → List ℕ) (xs : List ℕ) (x n : ℕ) → contains xs x ≡ true → contains (f x) n ≡ true → contains (flat_map f xs) n ≡ true
+pub contains-flat_map : (f : ℕ → List ℕ) (xs : List ℕ) (x n : ℕ) → contains xs x ≡ true → contains (f x) n ≡ true
+    → contains (flat_map f xs) n ≡ true
 contains-flat_map f [] x n here h = absurd (true≢false (sym here))
 contains-flat_map f (y ∷ xs) x n here h =
     ⊎_elim (λ e. contains_left (f y) (flat_map f xs) n (ap (λ z. contains (f z) n) e ∙ h))
@@ -266,6 +293,8 @@ contains-flat_map f (y ∷ xs) x n here h =
     (contains_in_cons y x xs here)
 
 -- lists of at most so many numbers each have at most the product together
-pub length-flat_map : (f : ℕ → List ℕ) (most : ℕ) → ((x : ℕ) → length (f x) ≤ most) → (xs : List ℕ) → length (flat_map f xs) ≤ length xs * most
+pub length-flat_map : (f : ℕ → List ℕ) (most : ℕ) → ((x : ℕ) → length (f x) ≤ most) → (xs : List ℕ)
+    → length (flat_map f xs) ≤ length xs * most
 length-flat_map f most each [] = omega arith
-length-flat_map f most each (x ∷ xs) = omega (arith, length-append (f x) (flat_map f xs), each x, length-flat_map f most each xs)
+length-flat_map f most each (x ∷ xs) =
+    omega (arith, length-append (f x) (flat_map f xs), each x, length-flat_map f most each xs)

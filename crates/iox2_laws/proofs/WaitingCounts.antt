@@ -1,5 +1,6 @@
 -- How many messages wait, and when that stays or falls.
-use Rattle.std.proofs.Common.{◌≡◌, ℕ, zero, suc, ◌+◌, ◌≤◌, ◌<◌, Bool, true, false, cond, ◌&&◌, ◌||◌, List, [], ◌∷◌, length, refl, sym, ap, ◌∙◌, arith, Option, ◌⊎◌, inl, inr}
+use Rattle.std.proofs.Common.{◌≡◌, ℕ, zero, suc, ◌+◌, ◌≤◌, ◌<◌, Bool, true, false, cond, ◌&&◌, ◌||◌, List, [], ◌∷◌}
+use Rattle.std.proofs.Common.{length, refl, sym, ap, ◌∙◌, arith, Option, ◌⊎◌, inl, inr}
 use Rattle.std.proofs.lemmas.Bool.{cases_eq}
 use Rattle.std.specs.Option.{option_map_or}
 use Rattle.iox2_machine.specs.machine.Numbers.{contains}
@@ -36,7 +37,8 @@ sum_zero f (suc n) each =
     omega arith
 
 -- where one is less by one, and all others are the same, so is the sum
-pub sum_one_less : (f g : ℕ → ℕ) (k n : ℕ) → k < n → suc (f k) ≡ g k → ((p : ℕ) → (p ≡ k → ⊥) → f p ≡ g p) → suc (sum_below f n) ≡ sum_below g n
+pub sum_one_less : (f g : ℕ → ℕ) (k n : ℕ) → k < n → suc (f k) ≡ g k → ((p : ℕ) → (p ≡ k → ⊥) → f p ≡ g p)
+    → suc (sum_below f n) ≡ sum_below g n
 sum_one_less f g k zero low one others = absurd (omega arith)
 sum_one_less f g k (suc n) low one others = elim (cases_eq n k) [
   | inl here ↦
@@ -50,7 +52,8 @@ sum_one_less f g k (suc n) low one others = elim (cases_eq n k) [
 ]
 
 -- where one is at most so much more, and no other is more, so is the sum
-pub sum_more : (f g : ℕ → ℕ) (k more n : ℕ) → f k ≤ g k + more → ((p : ℕ) → (p ≡ k → ⊥) → f p ≤ g p) → sum_below f n ≤ sum_below g n + more
+pub sum_more : (f g : ℕ → ℕ) (k more n : ℕ) → f k ≤ g k + more → ((p : ℕ) → (p ≡ k → ⊥) → f p ≤ g p)
+    → sum_below f n ≤ sum_below g n + more
 sum_more f g k more zero one others = omega arith
 sum_more f g k more (suc n) one others = elim (cases_eq n k) [
   | inl here ↦
@@ -87,7 +90,8 @@ pub cond_le : (b : Bool) (ns : List ℕ) → length (cond b ns []) ≤ length ns
 cond_le true ns = omega arith
 cond_le false ns = omega arith
 
-pub cond_more : (b : Bool) (ns ns' : List ℕ) (more : ℕ) → length ns' ≤ length ns + more → length (cond b ns' []) ≤ length (cond b ns []) + more
+pub cond_more : (b : Bool) (ns ns' : List ℕ) (more : ℕ) → length ns' ≤ length ns + more
+    → length (cond b ns' []) ≤ length (cond b ns []) + more
 cond_more true ns ns' more most = most
 cond_more false ns ns' more most = omega arith
 
@@ -97,13 +101,17 @@ cond_among true ns k at = at
 cond_among false ns k at = let clash : false ≡ true = at in absurd cc
 
 -- and the same for two lists of one subscriber
-pub cond_both_among : (b : Bool) (ns ns' : List ℕ) (R : Type 0) (k : ℕ) → (contains ns' k ≡ true → R ⊎ (contains ns k ≡ true)) → contains (cond b ns' []) k ≡ true → R ⊎ (contains (cond b ns []) k ≡ true)
+pub cond_both_among : (b : Bool) (ns ns' : List ℕ) (R : Type 0) (k : ℕ)
+    → (contains ns' k ≡ true → R ⊎ (contains ns k ≡ true)) → contains (cond b ns' []) k ≡ true
+    → R ⊎ (contains (cond b ns []) k ≡ true)
 cond_both_among true ns ns' R k each at = each at
 cond_both_among false ns ns' R k each at = let clash : false ≡ true = at in absurd cc
 
 -- a subscriber that is due has all
-pub due_among : (is_open due known due' known' : Bool) (ns ns' : List ℕ) (k : ℕ) → due ≡ true → (contains ns' k ≡ true → contains ns k ≡ true)
-    → contains (cond (is_open && (due' || known')) ns' []) k ≡ true → contains (cond (is_open && (due || known)) ns []) k ≡ true
+pub due_among : (is_open due known due' known' : Bool) (ns ns' : List ℕ) (k : ℕ) → due ≡ true
+    → (contains ns' k ≡ true → contains ns k ≡ true)
+    → contains (cond (is_open && (due' || known')) ns' []) k ≡ true
+    → contains (cond (is_open && (due || known)) ns []) k ≡ true
 due_among false due known due' known' ns ns' k is each at = at
 due_among true true known due' known' ns ns' k is each at = each (cond_among (due' || known') ns' k at)
 due_among true false known due' known' ns ns' k is each at = let clash : false ≡ true = is in absurd cc
@@ -112,7 +120,8 @@ due_among true false known due' known' ns ns' k is each at = let clash : false �
 pub due_le : (is_open due known due' known' : Bool) (ns ns' : List ℕ) → due ≡ true → length ns' ≤ length ns
     → length (cond (is_open && (due' || known')) ns' []) ≤ length (cond (is_open && (due || known)) ns [])
 due_le false due known due' known' ns ns' is less = omega arith
-due_le true true known due' known' ns ns' is less = let fewer : length (cond (due' || known') ns' []) ≤ length ns' = cond_le (due' || known') ns' in omega arith
+due_le true true known due' known' ns ns' is less =
+    let fewer : length (cond (due' || known') ns' []) ≤ length ns' = cond_le (due' || known') ns' in omega arith
 due_le true false known due' known' ns ns' is less = let clash : false ≡ true = is in absurd cc
 
 -- each of a sum is at most that
@@ -137,13 +146,17 @@ module _ {T U : Type 0} where
   waiting_for s q = sum_below (λ p. length (waiting_from s p q)) s.next_port
 
   pub by_record : (s : State T U) (p q : ℕ) (o : Option Subscriber) → s.subscribers q ≡ o
-      → waiting_from s p q ≡ cond (option_map_or (λ (y : Subscriber). receives_from y p) o false) (s.mailboxes p q).waiting []
-  by_record s p q o here = ap (λ (v : Option Subscriber). cond (option_map_or (λ (y : Subscriber). receives_from y p) v false) (s.mailboxes p q).waiting []) here
+      → waiting_from s p q ≡ cond (option_map_or (λ (y : Subscriber). receives_from y p) o false)
+      (s.mailboxes p q).waiting []
+  by_record s p q o here = ap (λ (v : Option Subscriber).
+      cond (option_map_or (λ (y : Subscriber). receives_from y p) v false) (s.mailboxes p q).waiting []) here
 
-  pub same_from : (s s' : State T U) (p q : ℕ) → s'.subscribers q ≡ s.subscribers q → (s'.mailboxes p q).waiting ≡ (s.mailboxes p q).waiting → waiting_from s' p q ≡ waiting_from s p q
+  pub same_from : (s s' : State T U) (p q : ℕ) → s'.subscribers q ≡ s.subscribers q
+      → (s'.mailboxes p q).waiting ≡ (s.mailboxes p q).waiting → waiting_from s' p q ≡ waiting_from s p q
   same_from s s' p q record_is waits =
       by_record s' p q (s.subscribers q) record_is
-      ∙ ap (λ (ns : List ℕ). cond (option_map_or (λ (y : Subscriber). receives_from y p) (s.subscribers q) false) ns []) waits
+      ∙ ap (λ (ns : List ℕ). cond (option_map_or (λ (y : Subscriber). receives_from y p) (s.subscribers q) false) ns [])
+      waits
 
   -- The same messages wait for each subscriber.
   pub record SameWaits (s s' : State T U) : Type 0 where
@@ -154,7 +167,8 @@ module _ {T U : Type 0} where
   same_itself s = record { ports = refl; from = λ p q. refl }
 
   -- as many wait where the same ports are there and as many wait from each
-  pub same_count : (s s' : State T U) (q : ℕ) → s'.next_port ≡ s.next_port → ((p : ℕ) → length (waiting_from s' p q) ≡ length (waiting_from s p q)) → waiting_for s' q ≡ waiting_for s q
+  pub same_count : (s s' : State T U) (q : ℕ) → s'.next_port ≡ s.next_port
+      → ((p : ℕ) → length (waiting_from s' p q) ≡ length (waiting_from s p q)) → waiting_for s' q ≡ waiting_for s q
   same_count s s' q ports each =
       ap (λ n. sum_below (λ p. length (waiting_from s' p q)) n) ports
       ∙ sum_same (λ p. length (waiting_from s' p q)) (λ p. length (waiting_from s p q)) s.next_port (λ p _. each p)

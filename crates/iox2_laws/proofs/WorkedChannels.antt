@@ -1,7 +1,8 @@
 -- Numbers in channels other than 0, worked out by computing: subscriber 1 and publisher 2, which are connected.
 use Rattle.std.proofs.Common.{◌≡◌, ℕ, true, false, [], ◌∷◌, take, drop, refl, None, Some}
 use Rattle.iox2_machine.specs.machine.Numbers.{put_at}
-use Rattle.iox2_machine.specs.machine.Mailbox.{Mailbox, ChannelNumber, empty_mailbox, with_appended, can_receive, has_numbers, waiting_dropped}
+use Rattle.iox2_machine.specs.machine.Mailbox.{Mailbox, ChannelNumber, empty_mailbox, with_appended, can_receive}
+use Rattle.iox2_machine.specs.machine.Mailbox.{has_numbers, waiting_dropped}
 use Rattle.iox2_machine.specs.machine.Delivery.{Complete, Accepted, Skipped, no_time}
 use Rattle.iox2_machine.specs.machine.Sends.{DeliverAndConclude, Delivered_to, send_ended, with_mailboxes}
 use Rattle.iox2_machine.specs.machine.Environments.{ample_memory}
@@ -15,7 +16,15 @@ use Rattle.iox2_laws.specs.Sendings.{sending}
 
 -- the subscriber, with an end to the publisher
 abbrev reader : Subscriber
-reader = record { is_open = true; place = 0; buffer = 1; degradation_handler = Fixed Warn; ends = Some 2 ∷ []; expired = []; is_due = false }
+reader = record {
+  is_open = true;
+  place = 0;
+  buffer = 1;
+  degradation_handler = Fixed Warn;
+  ends = Some 2 ∷ [];
+  expired = [];
+  is_due = false;
+}
 
 -- the publisher, with an end to the subscriber
 abbrev writer : Publisher
@@ -61,7 +70,8 @@ overflown : with_appended 1 1 10 two ≡ record { waiting = []; borrowed = []; o
 overflown = refl
 
 -- where it has room nothing leaves
-filled : with_appended 1 2 10 two ≡ record { waiting = []; borrowed = []; others = tagged 1 8 ∷ tagged 1 10 ∷ tagged 2 9 ∷ [] }
+filled : with_appended 1 2 10 two
+    ≡ record { waiting = []; borrowed = []; others = tagged 1 8 ∷ tagged 1 10 ∷ tagged 2 9 ∷ [] }
 filled = refl
 
 -- what waits there isn't received, but it counts, and it is lost with all that waits
@@ -78,7 +88,12 @@ sent : DeliverAndConclude ample_memory joined 2 (sending 8 1 0 0 (take 1 (drop 0
 sent = (
   Complete 1 false,
   put_at (joined.mailboxes 2) 1 (with_appended 1 1 8 empty_mailbox),
-  (Accepted, put_at (joined.mailboxes 2) 1 (with_appended 1 1 8 empty_mailbox), (with_appended 1 1 8 empty_mailbox, (refl, refl), refl), (refl, refl)),
+  (
+    Accepted,
+    put_at (joined.mailboxes 2) 1 (with_appended 1 1 8 empty_mailbox),
+    (with_appended 1 1 8 empty_mailbox, (refl, refl), refl),
+    (refl, refl),
+  ),
   (refl, refl),
 )
 

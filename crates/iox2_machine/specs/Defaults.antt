@@ -5,9 +5,9 @@ use Rattle.iox2_machine.specs.declared.service_config.TypeVariant.TheVariants.{F
 use Rattle.iox2_machine.specs.declared.allocation.AllocationStrategy.TheVariants.{Static}
 use Rattle.iox2_machine.specs.declared.backpressure.BackpressureStrategy.TheVariants.{RetryUntilDelivered}
 
--- Single values, of node 0, in memory that doesn't grow, for 2 publishers with 2 loans each and 8 subscribers, with buffers
--- of 2, 2 borrowed samples, room for 128 departed publishers, no history, one channel and overflow. A publisher retries, and
--- cells are handed out.
+-- Single values, of node 0, in memory that doesn't grow, for 2 publishers with 2 loans each and 8 subscribers, with
+-- buffers of 2, 2 borrowed samples, room for 128 departed publishers, no history, one channel and overflow. A publisher
+-- retries, and cells are handed out.
 abbrev pub default_config : (service_id : ℕ) → ServiceConfig
 default_config service_id = record {
   service_id = service_id;

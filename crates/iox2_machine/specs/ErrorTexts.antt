@@ -38,22 +38,26 @@ open_error_name opening.InternalError = codes "InternalError"
 
 -- The name of a connection failure's variant, with that of its cause in parentheses.
 abbrev pub connection_failure_name : ConnectionFailure → List ℕ
-connection_failure_name (connection.FailedToEstablishConnection cause) = codes "FailedToEstablishConnection(" ++ creation_error_name cause ++ codes ")"
-connection_failure_name (connection.UnableToMapSendersDataSegment cause) = codes "UnableToMapSendersDataSegment(" ++ open_error_name cause ++ codes ")"
+connection_failure_name (connection.FailedToEstablishConnection cause) =
+    codes "FailedToEstablishConnection(" ++ creation_error_name cause ++ codes ")"
+connection_failure_name (connection.UnableToMapSendersDataSegment cause) =
+    codes "UnableToMapSendersDataSegment(" ++ open_error_name cause ++ codes ")"
 
 -- The name of a send error's variant, with that of its cause, if it has one, in parentheses.
 abbrev pub send_error_name : SendError → List ℕ
 send_error_name send.ConnectionBrokenSinceSenderNoLongerExists = codes "ConnectionBrokenSinceSenderNoLongerExists"
 send_error_name send.ConnectionCorrupted = codes "ConnectionCorrupted"
 send_error_name (send.LoanError refusal) = codes "LoanError(" ++ loan_error_name refusal ++ codes ")"
-send_error_name (send.ConnectionError failure) = codes "ConnectionError(" ++ connection_failure_name failure ++ codes ")"
+send_error_name (send.ConnectionError failure) =
+    codes "ConnectionError(" ++ connection_failure_name failure ++ codes ")"
 send_error_name send.UnableToDeliver = codes "UnableToDeliver"
 send_error_name send.InternalError = codes "InternalError"
 
 -- The name of a receive error's variant, with that of its cause, if it has one, in parentheses.
 abbrev pub receive_error_name : ReceiveError → List ℕ
 receive_error_name receive.ExceedsMaxBorrows = codes "ExceedsMaxBorrows"
-receive_error_name (receive.ConnectionFailure failure) = codes "ConnectionFailure(" ++ connection_failure_name failure ++ codes ")"
+receive_error_name (receive.ConnectionFailure failure) =
+    codes "ConnectionFailure(" ++ connection_failure_name failure ++ codes ")"
 
 -- The name of the variant that says why a publisher was not created.
 abbrev pub publisher_create_error_name : PublisherCreateError → List ℕ
@@ -65,7 +69,8 @@ publisher_create_error_name publisher.UnableToCreatePortTag = codes "UnableToCre
 -- The name of the variant that says why a subscriber was not created.
 abbrev pub subscriber_create_error_name : SubscriberCreateError → List ℕ
 subscriber_create_error_name subscriber.ExceedsMaxSupportedSubscribers = codes "ExceedsMaxSupportedSubscribers"
-subscriber_create_error_name subscriber.BufferSizeExceedsMaxSupportedBufferSizeOfService = codes "BufferSizeExceedsMaxSupportedBufferSizeOfService"
+subscriber_create_error_name subscriber.BufferSizeExceedsMaxSupportedBufferSizeOfService =
+    codes "BufferSizeExceedsMaxSupportedBufferSizeOfService"
 subscriber_create_error_name subscriber.FailedToDeployThreadsafetyPolicy = codes "FailedToDeployThreadsafetyPolicy"
 subscriber_create_error_name subscriber.UnableToCreatePortTag = codes "UnableToCreatePortTag"
 

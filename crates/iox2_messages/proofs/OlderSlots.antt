@@ -1,5 +1,6 @@
 -- What is in a publisher's older slots that nobody holds is given up: the fields agree, and keep what they kept.
-use Rattle.std.proofs.Common.{◌≡◌, ◌≢◌, ℕ, ◌+◌, ◌*◌, ◌<◌, ◌≤◌, List, length, false, cond, get_or, slice_set, refl, ap, sym, subst, ◌∙◌, inl, inr, arith}
+use Rattle.std.proofs.Common.{◌≡◌, ◌≢◌, ℕ, ◌+◌, ◌*◌, ◌<◌, ◌≤◌, List, length, false, cond, get_or, slice_set, refl, ap}
+use Rattle.std.proofs.Common.{sym, subst, ◌∙◌, inl, inr, arith}
 use Rattle.std.proofs.lemmas.Bool.{cases_eq, cases_lt}
 use Rattle.std.proofs.lemmas.Grind.{get_or_default_zero}
 use Rattle.std.proofs.lemmas.List.{length-set}
@@ -14,9 +15,11 @@ use Rattle.circular_buffer.proofs.Places.{slice_get-set_same, slice_get-set_othe
 use Rattle.slab.specs.Slab.{get}
 use Rattle.iox2_contents.specs.SlotContents.{ContentState, ClearsSlot, SomeAt}
 use Rattle.iox2_slots.specs.SlotBook.{Book, holders_at}
-use Rattle.iox2_domain.specs.Fields.{Fields, kept_of, kept_book, map_from, message_in, message_of, contents_at, contents_in}
+use Rattle.iox2_domain.specs.Fields.{Fields, kept_of, kept_book, map_from, message_in, message_of, contents_at}
+use Rattle.iox2_domain.specs.Fields.{contents_in}
 use Rattle.iox2_domain.specs.Growth.{ClearsUnused}
-use Rattle.iox2_domain.specs.Invariant.{IsDomain, HasBooks, HasForms, HasOpenLoans, HasParts, HasRoomFrom, HasShapes, cell_count, cell_lists}
+use Rattle.iox2_domain.specs.Invariant.{IsDomain, HasBooks, HasForms, HasOpenLoans, HasParts, HasRoomFrom, HasShapes}
+use Rattle.iox2_domain.specs.Invariant.{cell_count, cell_lists}
 use Rattle.iox2_domain.specs.Kept.{Kept, KeptBook, KeptMessage, state_of, entries_of}
 use Rattle.iox2_domain.specs.Ports.{PublisherFields, slot_length}
 use Rattle.iox2_domain.specs.Reaches.{Reaches}
@@ -37,15 +40,19 @@ use Rattle.iox2_messages.proofs.ClearedSlots.{clears-next}
 module _ {T U : Type 0} (slots : List ℕ) (start : ℕ) where
   -- What lay in the first n of the slots, as far as they are before `start`, is given up.
   abbrev pub GivesUpFirst : (n : ℕ) → List (ContentState T U) → Type 0
-  GivesUpFirst n contents = (k : ℕ) → k < n → slice_index slots k < start → SomeAt contents (slice_index slots k) IsGivenUp
+  GivesUpFirst n contents =
+      (k : ℕ) → k < n → slice_index slots k < start → SomeAt contents (slice_index slots k) IsGivenUp
 
   -- One slot more is cleared,
-  pub given_up-next : (n : ℕ) (mid new : List (ContentState T U)) → GivesUpFirst n mid → ClearsSlot mid new (slice_index slots n) → GivesUpFirst (n + 1) new
+  pub given_up-next : (n : ℕ) (mid new : List (ContentState T U)) → GivesUpFirst n mid
+      → ClearsSlot mid new (slice_index slots n) → GivesUpFirst (n + 1) new
   given_up-next n mid new before clears k low older = elim (cases_eq (slice_index slots k) (slice_index slots n)) [
     | inl here ↦
         let now : slice_get new (slice_index slots k) ≡ Some clears.content =
-        ap (slice_get new) here ∙ ap (λ (cs : List (ContentState T U)). slice_get cs (slice_index slots n)) clears.cleared
-        ∙ slice_get-set_same mid (slice_index slots n) clears.content (slice_get_within mid (slice_index slots n) clears.had clears.there) in
+        ap (slice_get new) here
+        ∙ ap (λ (cs : List (ContentState T U)). slice_get cs (slice_index slots n)) clears.cleared
+        ∙ slice_get-set_same mid (slice_index slots n) clears.content
+        (slice_get_within mid (slice_index slots n) clears.had clears.there) in
         subst (λ o. IsSomeAnd o IsGivenUp) (sym now) (clears.cells, clears.freed)
     | inr away ↦
         let less : k < n = elim (cases_lt k n) [
@@ -53,25 +60,30 @@ module _ {T U : Type 0} (slots : List ℕ) (start : ℕ) where
           | inr ge ↦ let last : k ≡ n = omega (arith, ge, low) in absurd (away (ap (slice_index slots) last))
         ] in
         let same : slice_get new (slice_index slots k) ≡ slice_get mid (slice_index slots k) =
-        ap (λ (cs : List (ContentState T U)). slice_get cs (slice_index slots k)) clears.cleared ∙ slice_get-set_other mid (slice_index slots n) (slice_index slots k) clears.content away in
+        ap (λ (cs : List (ContentState T U)). slice_get cs (slice_index slots k)) clears.cleared
+        ∙ slice_get-set_other mid (slice_index slots n) (slice_index slots k) clears.content away in
         subst (λ o. IsSomeAnd o IsGivenUp) (sym same) (before k less older)
   ]
 
   -- or passed over, since it isn't before `start`.
-  pub given_up-passed : (n : ℕ) (mid : List (ContentState T U)) → GivesUpFirst n mid → start ≤ slice_index slots n → GivesUpFirst (n + 1) mid
+  pub given_up-passed : (n : ℕ) (mid : List (ContentState T U)) → GivesUpFirst n mid → start ≤ slice_index slots n
+      → GivesUpFirst (n + 1) mid
   given_up-passed n mid before late k low older = elim (cases_lt k n) [
     | inl lt ↦ before k lt older
-    | inr ge ↦ let last : k ≡ n = omega (arith, ge, low) in absurd (let e = ap (slice_index slots) last in omega (arith, e, late, older))
+    | inr ge ↦ let last : k ≡ n = omega (arith, ge, low) in
+        absurd (let e = ap (slice_index slots) last in omega (arith, e, late, older))
   ]
 
   -- All of them are passed.
-  pub given_up-all : (contents : List (ContentState T U)) → GivesUpFirst (length slots) contents → All (λ slot. slot < start → SomeAt contents slot IsGivenUp) slots
+  pub given_up-all : (contents : List (ContentState T U)) → GivesUpFirst (length slots) contents
+      → All (λ slot. slot < start → SomeAt contents slot IsGivenUp) slots
   given_up-all contents first k d lt =
       let is : slice_index slots k ≡ get_or slots k d = sym (get_or_default_zero slots k d lt) in
       subst (λ slot. slot < start → SomeAt contents slot IsGivenUp) is (first k lt)
 
 -- At first nothing is cleared.
-pub clears-none : {T U : Type 0} (b : Book) (end : ℕ) (contents : List (ContentState T U)) → ClearsUnused b end contents contents
+pub clears-none : {T U : Type 0} (b : Book) (end : ℕ) (contents : List (ContentState T U))
+    → ClearsUnused b end contents contents
 clears-none b end contents = record {
   count = refl;
   kept = λ slot either. refl;
@@ -80,7 +92,8 @@ clears-none b end contents = record {
   cells = record { at = λ slot content there some. there };
 }
 
--- The first n of these slots, as far as they are before `start`, are cleared. By each book in which nobody holds the slots, only unused ones are.
+-- The first n of these slots, as far as they are before `start`, are cleared. By each book in which nobody holds the
+-- slots, only unused ones are.
 pub record ClearedFirst {T U : Type 0} (slots : List ℕ) (start n : ℕ) (old new : List (ContentState T U)) : Type 0 where
   pub count : length new ≡ length old
   pub clears : (b : Book) → All (λ slot. holders_at b slot ≡ 0) slots → ClearsUnused b start old new
@@ -88,22 +101,34 @@ pub record ClearedFirst {T U : Type 0} (slots : List ℕ) (start n : ℕ) (old n
 
 module _ {T U : Type 0} (slots : List ℕ) (start : ℕ) (old : List (ContentState T U)) where
   pub cleared-none : ClearedFirst slots start 0 old old
-  cleared-none = record { count = refl; clears = λ b unused. clears-none b start old; given_up = λ k low. absurd (omega (arith, low)) }
+  cleared-none = record {
+    count = refl;
+    clears = λ b unused. clears-none b start old;
+    given_up = λ k low. absurd (omega (arith, low));
+  }
 
-  pub cleared-next : (n : ℕ) (mid new : List (ContentState T U)) → n < length slots → ClearedFirst slots start n old mid → slice_index slots n < start → ClearsSlot mid new (slice_index slots n)
+  pub cleared-next : (n : ℕ) (mid new : List (ContentState T U)) → n < length slots → ClearedFirst slots start n old mid
+      → slice_index slots n < start → ClearsSlot mid new (slice_index slots n)
       → ClearedFirst slots start (n + 1) old new
   cleared-next n mid new within before older clears = record {
     count = ap length clears.cleared ∙ length-set mid (slice_index slots n) clears.content ∙ before.count;
-    clears = λ b unused. clears-next b start old mid new (slice_index slots n) (before.clears b unused) (unused n 0 within) older clears;
+    clears = λ b unused.
+        clears-next b start old mid new (slice_index slots n) (before.clears b unused) (unused n 0 within) older clears;
     given_up = given_up-next slots start n mid new before.given_up clears;
   }
 
-  pub cleared-passed : (n : ℕ) (mid : List (ContentState T U)) → ClearedFirst slots start n old mid → start ≤ slice_index slots n → ClearedFirst slots start (n + 1) old mid
-  cleared-passed n mid before late = record { count = before.count; clears = before.clears; given_up = given_up-passed slots start n mid before.given_up late }
+  pub cleared-passed : (n : ℕ) (mid : List (ContentState T U)) → ClearedFirst slots start n old mid
+      → start ≤ slice_index slots n → ClearedFirst slots start (n + 1) old mid
+  cleared-passed n mid before late = record {
+    count = before.count;
+    clears = before.clears;
+    given_up = given_up-passed slots start n mid before.given_up late;
+  }
 
 -- ---- the fields
 
-module _ {T U : Type 0} (f : Fields T U) (sound : IsDomain f) (i : ℕ) (x : PublisherFields) (at : get_or f.publishers i None ≡ Some x) (f' : Fields T U) (g : ClearsOlder f x f') where
+module _ {T U : Type 0} (f : Fields T U) (sound : IsDomain f) (i : ℕ) (x : PublisherFields)
+    (at : get_or f.publishers i None ≡ Some x) (f' : Fields T U) (g : ClearsOlder f x f') where
   abbrev changed : List (Option (List (ContentState T U)))
   changed = slice_set f.contents x.book (Some g.left)
 
@@ -120,7 +145,8 @@ module _ {T U : Type 0} (f : Fields T U) (sound : IsDomain f) (i : ℕ) (x : Pub
   in_book : (s : ℕ) → message_in g.book g.left s ≡ message_in g.book g.contents s
   in_book s = elim (cases_lt 0 (holders_at g.book s)) [
     | inl held ↦ λ t. cond (nat_lt 0 (holders_at g.book s)) (option_and_then (λ header. option_and_then (λ content.
-        option_map (message_of (g.book).publisher (slice_index (g.book).numbers s) header content) (slice_get (g.book).marks s))
+        option_map (message_of (g.book).publisher (slice_index (g.book).numbers s) header content)
+        (slice_get (g.book).marks s))
         ((g.clears).kept s (inl held) t)) (slice_get (g.book).headers s)) None
     | inr none ↦
         let free : holders_at g.book s ≡ 0 = omega (arith, none) in
@@ -128,7 +154,8 @@ module _ {T U : Type 0} (f : Fields T U) (sound : IsDomain f) (i : ℕ) (x : Pub
   ]
 
   -- and in each of any book
-  lies : (k s : ℕ) (c : Book) → get f.books k ≡ Some c → message_in c (contents_at changed k) s ≡ message_in c (contents_at f.contents k) s
+  lies : (k s : ℕ) (c : Book) → get f.books k ≡ Some c
+      → message_in c (contents_at changed k) s ≡ message_in c (contents_at f.contents k) s
   lies k s c there = elim (cases_eq k x.book) [
     | inl same ↦
         let both : Some g.book ≡ Some c = sym g.stood ∙ sym (ap (get f.books) same) ∙ there in
@@ -144,34 +171,45 @@ module _ {T U : Type 0} (f : Fields T U) (sound : IsDomain f) (i : ℕ) (x : Pub
   -- so the same is kept
   kept : kept_of after ≡ kept_of f
   kept = λ t. record (kept_of f) { books = books t } where
-    book : (k : ℕ) (o : Option Book) → slice_get (f.books).slots k ≡ Some o → kept_book changed k o ≡ kept_book f.contents k o
+    book : (k : ℕ) (o : Option Book) → slice_get (f.books).slots k ≡ Some o
+        → kept_book changed k o ≡ kept_book f.contents k o
     book k None there = refl
     book k (Some c) there =
         let stands : get f.books k ≡ Some c = get_or_from_slice_get (f.books).slots k (Some c) None there in
-        ap (λ (ms : List (Option (KeptMessage T U))). let kept : Option (KeptBook T U) = Some (record { publisher = c.publisher; slots = ms }) in kept)
-        (map_from_zero-alike (λ s holders. message_in c (contents_at changed k) s) (λ s holders. message_in c (contents_at f.contents k) s) c.holders
+        ap (λ (ms : List (Option (KeptMessage T U))).
+        let kept : Option (KeptBook T U) = Some (record { publisher = c.publisher; slots = ms }) in kept)
+        (map_from_zero-alike (λ s holders. message_in c (contents_at changed k) s)
+        (λ s holders. message_in c (contents_at f.contents k) s) c.holders
         (λ s holders _. lies k s c stands))
 
     books : map_from (kept_book changed) 0 (f.books).slots ≡ map_from (kept_book f.contents) 0 (f.books).slots
     books = map_from_zero-alike (kept_book changed) (kept_book f.contents) (f.books).slots book
 
   -- what holds of the contents of each book, and of what is left, holds still
-  still : (P : List (ContentState T U) → Type 0) → (P g.contents → P g.left) → (k : ℕ) → IsSomeAnd (get_or f.contents k None) P → IsSomeAnd (get_or changed k None) P
+  still : (P : List (ContentState T U) → Type 0) → (P g.contents → P g.left) → (k : ℕ)
+      → IsSomeAnd (get_or f.contents k None) P → IsSomeAnd (get_or changed k None) P
   still P keeps k has = elim (cases_eq k x.book) [
     | inl same ↦
-        let old : P g.contents = subst (λ o. IsSomeAnd o P) (ap (λ (j : ℕ). get_or f.contents j None) same ∙ g.had) has in
+        let old : P g.contents =
+        subst (λ o. IsSomeAnd o P) (ap (λ (j : ℕ). get_or f.contents j None) same ∙ g.had) has in
         subst (λ o. IsSomeAnd o P) (sym (ap (λ (j : ℕ). get_or changed j None) same ∙ here)) (keeps old)
     | inr away ↦ subst (λ o. IsSomeAnd o P) (sym (others k away)) has
   ]
 
   abbrev HasRoomOf : PublisherFields → Option (List (ContentState T U)) → Type 0
-  HasRoomOf z o = IsSomeAnd o (HasRoomFrom z.segment_start (slot_length z.segment_length * (f.config).units_per_element))
+  HasRoomOf z o =
+      IsSomeAnd o (HasRoomFrom z.segment_start (slot_length z.segment_length * (f.config).units_per_element))
 
   -- no slot of the current segment loses room
   own_room : HasRoomOf x (get_or changed x.book None)
   own_room =
-      let was : HasRoomFrom x.segment_start (slot_length x.segment_length * (f.config).units_per_element) g.contents = subst (HasRoomOf x) g.had (sound.parts.books.publishers i x at).room in
-      subst (HasRoomOf x) (sym here) (record { at = λ slot content from there. was.at slot content from (sym ((g.clears).kept slot (inr from)) ∙ there) })
+      let was : HasRoomFrom x.segment_start (slot_length x.segment_length * (f.config).units_per_element) g.contents =
+      subst (HasRoomOf x) g.had (sound.parts.books.publishers i x at).room in
+      subst (HasRoomOf x) (sym here)
+      (record {
+        at = λ slot content from there.
+            was.at slot content from (sym ((g.clears).kept slot (inr from)) ∙ there);
+      })
 
   room : (k : ℕ) (z : PublisherFields) → get_or f.publishers k None ≡ Some z → HasRoomOf z (get_or changed z.book None)
   room k z there = elim (cases_eq k i) [
@@ -179,7 +217,8 @@ module _ {T U : Type 0} (f : Fields T U) (sound : IsDomain f) (i : ℕ) (x : Pub
         let found : Some x ≡ Some z = sym at ∙ sym (ap (λ (j : ℕ). get_or f.publishers j None) same) ∙ there in
         let is : x ≡ z = cc in
         subst (λ (w : PublisherFields). HasRoomOf w (get_or changed w.book None)) is own_room
-    | inr away ↦ subst (HasRoomOf z) (sym (others z.book (books-apart f sound.parts i x at k z away there))) (sound.parts.books.publishers k z there).room
+    | inr away ↦ subst (HasRoomOf z) (sym (others z.book (books-apart f sound.parts i x at k z away there)))
+        (sound.parts.books.publishers k z there).room
   ]
 
   has_books : HasBooks after
@@ -204,11 +243,15 @@ module _ {T U : Type 0} (f : Fields T U) (sound : IsDomain f) (i : ℕ) (x : Pub
   }
 
   shapes : HasShapes after
-  shapes = record { at = λ k slot b m there lies_there. sound.parts.shapes.at k slot b m there (sym (lies k slot b there) ∙ lies_there) }
+  shapes = record {
+    at = λ k slot b m there lies_there.
+        sound.parts.shapes.at k slot b m there (sym (lies k slot b there) ∙ lies_there);
+  }
 
   -- its slots have as many lists as they had
   listed : All (λ content. content.lists ≡ cell_lists f.config x.max_loaned_samples) g.left
-  listed = (g.clears).lists (cell_lists f.config x.max_loaned_samples) (sound.parts.open_loans.lists i x g.contents at g.had)
+  listed =
+      (g.clears).lists (cell_lists f.config x.max_loaned_samples) (sound.parts.open_loans.lists i x g.contents at g.had)
 
   left-at : (k : ℕ) (cs : List (ContentState T U)) → k ≡ x.book → get_or changed k None ≡ Some cs → g.left ≡ cs
   left-at k cs same there =
@@ -217,14 +260,17 @@ module _ {T U : Type 0} (f : Fields T U) (sound : IsDomain f) (i : ℕ) (x : Pub
   forms : HasForms f.config changed
   forms = record {
     at = λ several k cs there. elim (cases_eq k x.book) [
-      | inl same ↦ subst (All (λ content. content.is_in_place ≡ false)) (left-at k cs same there) ((g.clears).forms (sound.parts.forms.at several x.book g.contents g.had))
+      | inl same ↦ subst (All (λ content. content.is_in_place ≡ false)) (left-at k cs same there)
+          ((g.clears).forms (sound.parts.forms.at several x.book g.contents g.had))
       | inr away ↦ sound.parts.forms.at several k cs (sym (others k away) ∙ there)
     ];
     cells = λ several lists k cs there. elim (cases_eq k x.book) [
       | inl same ↦
           subst (All (λ content. 0 < content.lists)) (left-at k cs same there)
-          (All-weaker (λ content. content.lists ≡ cell_lists f.config x.max_loaned_samples) (λ content. 0 < content.lists)
-          (λ content are. subst (λ n. 0 < n) (sym are) (lists-some f.config x.max_loaned_samples several lists)) g.left listed)
+          (All-weaker (λ content. content.lists ≡ cell_lists f.config x.max_loaned_samples)
+          (λ content. 0 < content.lists)
+          (λ content are. subst (λ n. 0 < n) (sym are) (lists-some f.config x.max_loaned_samples several lists)) g.left
+          listed)
       | inr away ↦ sound.parts.forms.cells several lists k cs (sym (others k away) ∙ there)
     ];
   }
@@ -233,11 +279,16 @@ module _ {T U : Type 0} (f : Fields T U) (sound : IsDomain f) (i : ℕ) (x : Pub
   opened : (k slot : ℕ) → 0 < cell_count changed k slot → 0 < cell_count f.contents k slot
   opened k slot some = elim (cases_eq k x.book) [
     | inl same ↦
-        let is = cells-some (slice_get g.left slot) (subst (λ (n : ℕ). 0 < n) (cells-read changed x.book slot (Some g.left) here) (subst (λ (j : ℕ). 0 < cell_count changed j slot) same some)) in
+        let is = cells-some (slice_get g.left slot)
+        (subst (λ (n : ℕ). 0 < n) (cells-read changed x.book slot (Some g.left) here)
+        (subst (λ (j : ℕ). 0 < cell_count changed j slot) same some)) in
         let had : slice_get g.contents slot ≡ Some is.0 = ((g.clears).cells).at slot is.0 is.1 is.2 in
-        let count : cell_count f.contents k slot ≡ length (is.0).cells = ap (λ (j : ℕ). cell_count f.contents j slot) same ∙ cells-read f.contents x.book slot (Some g.contents) g.had ∙ ap cells_if had in
+        let count : cell_count f.contents k slot ≡ length (is.0).cells =
+        ap (λ (j : ℕ). cell_count f.contents j slot) same ∙ cells-read f.contents x.book slot (Some g.contents) g.had
+        ∙ ap cells_if had in
         omega (arith, count, is.2)
-    | inr away ↦ subst (λ (n : ℕ). 0 < n) (ap (λ (o : Option (List (ContentState T U))). cells_in o slot) (others k away)) some
+    | inr away ↦
+        subst (λ (n : ℕ). 0 < n) (ap (λ (o : Option (List (ContentState T U))). cells_in o slot) (others k away)) some
   ]
 
   keeps-lists : KeepsLists f.contents changed
@@ -253,7 +304,8 @@ module _ {T U : Type 0} (f : Fields T U) (sound : IsDomain f) (i : ℕ) (x : Pub
   }
 
   open_loans : HasOpenLoans f.config f.publishers f.books changed
-  open_loans = open-kept f.publishers f.books f.books f.contents changed opened (λ k slot some. refl) keeps-lists sound.parts.open_loans
+  open_loans = open-kept f.publishers f.books f.books f.contents changed opened
+      (λ k slot some. refl) keeps-lists sound.parts.open_loans
 
   parts : HasParts after
   parts = record {

@@ -16,8 +16,10 @@ use Rattle.iox2_domain.proofs.lemmas.fields.ReachesShows.{reaches-then}
 use Rattle.iox2_domain.proofs.lemmas.loans.Lent.{lent-in_slot, lent-reaches}
 use Rattle.iox2_domain.proofs.lemmas.loans.LendingSteps.{Lends}
 
-module _ {T U : Type 0} (f mid : Fields T U) (sound : IsDomain f) (i : ℕ) (x : PublisherFields) (at : get_or f.publishers i None ≡ Some x)
-    (reached : Reaches f mid (state_of (kept_of f))) (y : PublisherFields) (at_mid : get_or mid.publishers i None ≡ Some y) (id : y.id ≡ x.id) where
+module _ {T U : Type 0} (f mid : Fields T U) (sound : IsDomain f) (i : ℕ) (x : PublisherFields)
+    (at : get_or f.publishers i None ≡ Some x)
+    (reached : Reaches f mid (state_of (kept_of f))) (y : PublisherFields)
+    (at_mid : get_or mid.publishers i None ≡ Some y) (id : y.id ≡ x.id) where
   abbrev state : State T U
   state = state_of (kept_of f)
 
@@ -28,12 +30,16 @@ module _ {T U : Type 0} (f mid : Fields T U) (sound : IsDomain f) (i : ℕ) (x :
   pub machine-kept : (publisher_of mid.books mid.connections y).port ≡ machine
   machine-kept =
       let same : Some ((publisher_of mid.books mid.connections y).port) ≡ Some machine =
-      sym (publisher-stands mid reached.agrees.parts i y at_mid) ∙ ap (λ (s : State T U). s.publishers y.id) reached.state ∙ ap state.publishers id ∙ publisher-stands f sound.parts i x at in
+      sym (publisher-stands mid reached.agrees.parts i y at_mid) ∙ ap (λ (s : State T U). s.publishers y.id)
+      reached.state ∙ ap state.publishers id ∙ publisher-stands f sound.parts i x at in
       cc
 
-  module _ (is_default : U → Type 0) (checks : Bool) (len : ℕ) (one : (f.config).variant ≡ FixedSize → len ≡ 1) (segments slot : ℕ) (new : Fields T U)
-      (its : Lends is_default mid i y slot len segments new) (fits : is_static y.allocation ≡ false → len ≤ y.segment_length)
-      (grants : (user_header : U) → GrantLoan (memory_for x.allocation) user_header checks len state x.id (loan_granted user_header state x.id machine len segments) None) where
+  module _ (is_default : U → Type 0) (checks : Bool) (len : ℕ) (one : (f.config).variant ≡ FixedSize → len ≡ 1)
+      (segments slot : ℕ) (new : Fields T U)
+      (its : Lends is_default mid i y slot len segments new)
+      (fits : is_static y.allocation ≡ false → len ≤ y.segment_length)
+      (grants : (user_header : U) → GrantLoan (memory_for x.allocation) user_header checks len state x.id
+      (loan_granted user_header state x.id machine len segments) None) where
     abbrev user_header : U
     user_header = its.starts.user_header
 
@@ -47,7 +53,8 @@ module _ {T U : Type 0} (f mid : Fields T U) (sound : IsDomain f) (i : ℕ) (x :
     mid_machine = (publisher_of mid.books mid.connections y).port
 
     abbrev Grants : State T U → (p : ℕ) → Publisher → Type 0
-    Grants s p z = GrantLoan (memory_for x.allocation) user_header checks len s p (loan_granted user_header s p z len segments) None
+    Grants s p z = GrantLoan (memory_for x.allocation) user_header checks len s p
+        (loan_granted user_header s p z len segments) None
 
     grants-mid : Grants mid_state y.id mid_machine
     grants-mid =
@@ -63,12 +70,15 @@ module _ {T U : Type 0} (f mid : Fields T U) (sound : IsDomain f) (i : ℕ) (x :
         subst (λ (z : Publisher). Lent state x.id z) machine-kept
         (subst (λ (p : ℕ). Lent state p mid_machine) id
         (subst (λ (s : State T U). Lent s y.id mid_machine) reached.state
-        (lent-reaches mid reached.agrees i y at_mid checks len one_mid fits is_default slot segments new its (memory_for x.allocation) grants-mid)))
+        (lent-reaches mid reached.agrees i y at_mid checks len one_mid fits is_default slot segments new its
+        (memory_for x.allocation) grants-mid)))
 
     -- the loan is granted
     pub ready-lent : {A : Type 0} (loan : A) → LoanReaches is_default checks len f x (Ok loan) new
-    ready-lent loan = (user_header, its.starts.default, segments, grants user_header, reaches-then f mid new _ _ reached reaches)
+    ready-lent loan =
+        (user_header, its.starts.default, segments, grants user_header, reaches-then f mid new _ _ reached reaches)
 
     -- and lies in its slot
     pub ready-lies : LiesInSlot new y.id mid.next_message y.book slot
-    ready-lies = lent-in_slot mid reached.agrees i y at_mid checks len one_mid fits is_default slot segments new its (memory_for x.allocation) grants-mid
+    ready-lies = lent-in_slot mid reached.agrees i y at_mid checks len one_mid fits is_default slot segments new its
+        (memory_for x.allocation) grants-mid

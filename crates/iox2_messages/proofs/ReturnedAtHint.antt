@@ -1,5 +1,6 @@
 -- A sample's message that the subscriber's end gives back where the sample says that it lies.
-use Rattle.std.proofs.Common.{◌≡◌, ℕ, Option, None, Some, Contains, IsTrue, IsSomeAnd, length, slice_index, ◌<◌, refl, ap, sym, subst, ◌∙◌}
+use Rattle.std.proofs.Common.{◌≡◌, ℕ, Option, None, Some, Contains, IsTrue, IsSomeAnd, length, slice_index, ◌<◌, refl}
+use Rattle.std.proofs.Common.{ap, sym, subst, ◌∙◌}
 use Rattle.std.proofs.lemmas.Bool.{true≢false}
 use Rattle.slab.specs.Slab.{Slab, get, ContainsKey}
 use Rattle.iox2_connections.specs.Link.{Link}
@@ -34,15 +35,20 @@ module _ {T U : Type 0} (f v : Fields T U) (view : v ≡ f) (sound : IsDomain f)
     once-there =
         IsOnce-map (number_in_slot f.books c.home.publisher) c.borrowed
         (subst (λ (box : Mailbox). IsOnce box.borrowed)
-        (mailboxes-are f c.home.publisher c.home.subscriber ∙ mailbox-there (number_in_slot f.books) f.connections key c.home.publisher c.home.subscriber c sound.parts.apart stands refl refl)
-        (once-borrowed ((state_of (kept_of f)).mailboxes c.home.publisher c.home.subscriber) (sound.well_formed.mailboxes c.home.publisher c.home.subscriber).within.once))
+        (mailboxes-are f c.home.publisher c.home.subscriber ∙ mailbox-there
+        (number_in_slot f.books) f.connections key c.home.publisher c.home.subscriber c sound.parts.apart stands refl
+        refl)
+        (once-borrowed ((state_of (kept_of f)).mailboxes c.home.publisher c.home.subscriber)
+        (sound.well_formed.mailboxes c.home.publisher c.home.subscriber).within.once))
 
     -- and all are slots of its book
     pub slots-there : HasItsSlots v.books c
     slots-there = by (get v.books c.home.book) refl (names-book v f key c.home c view sound at refl) where
-      by : (o : Option Book) → get v.books c.home.book ≡ o → ContainsKey v.books c.home.book → IsSomeAnd o (λ b. (slot : ℕ) → Contains c.borrowed slot → slot < length b.holders)
+      by : (o : Option Book) → get v.books c.home.book ≡ o → ContainsKey v.books c.home.book
+          → IsSomeAnd o (λ b. (slot : ℕ) → Contains c.borrowed slot → slot < length b.holders)
       by None e has = absurd (true≢false (sym (rw e at has)))
-      by (Some b) e has = its-slots-within f sound key c.home.book c b (has-its-book v f key c.home c view sound at refl b e)
+      by (Some b) e has =
+          its-slots-within f sound key c.home.book c b (has-its-book v f key c.home c view sound at refl b e)
 
 -- the fields with what the end left
 abbrev left_by : {T U : Type 0} → Fields T U → Slab Link → Slab Book → Fields T U
@@ -50,21 +56,26 @@ left_by v new these = record v { connections = new; books = these }
 
 -- the sample's message, as the end names it
 abbrev message_named : SampleAt → BorrowedMessage
-message_named sample = record { subscriber = sample.subscriber; book = sample.book; slot = sample.slot; number = sample.number }
+message_named sample =
+    record { subscriber = sample.subscriber; book = sample.book; slot = sample.slot; number = sample.number }
 
 -- nothing was given back
-pub same-fields : {T U : Type 0} (f v : Fields T U) → v ≡ f → (new : Slab Link) (books : Slab Book) → books ≡ v.books → new ≡ v.connections → left_by v new books ≡ f
+pub same-fields : {T U : Type 0} (f v : Fields T U) → v ≡ f → (new : Slab Link) (books : Slab Book) → books ≡ v.books
+    → new ≡ v.connections → left_by v new books ≡ f
 same-fields {T} {U} f v view new books same stays =
-    ap (left_by v new) same ∙ ap (λ (slab : Slab Link). let g : Fields T U = record v { connections = slab } in g) stays ∙ view
+    ap (left_by v new) same ∙ ap (λ (slab : Slab Link). let g : Fields T U = record v { connections = slab } in g) stays
+    ∙ view
 
-module _ {T U : Type 0} (f v : Fields T U) (view : v ≡ f) (sound : IsDomain f) (sample : SampleAt) (message : BorrowedMessage) (named : message ≡ message_named sample) where
+module _ {T U : Type 0} (f v : Fields T U) (view : v ≡ f) (sound : IsDomain f) (sample : SampleAt)
+    (message : BorrowedMessage) (named : message ≡ message_named sample) where
   -- what the end says of the message is so of the sample
   module _ (last : IsLastAt v.connections v.books sample.connection message) where
     its : IsLastAt v.connections v.books sample.connection (message_named sample)
     its = subst (IsLastAt v.connections v.books sample.connection) named last
 
     there : (b : Book) × (get v.books sample.book ≡ Some b) × (slice_index b.numbers sample.slot ≡ sample.number)
-    there = some_is (λ (b : Book). slice_index b.numbers sample.slot ≡ sample.number) (get v.books sample.book) its.number_is
+    there = some_is (λ (b : Book). slice_index b.numbers sample.slot ≡ sample.number)
+        (get v.books sample.book) its.number_is
 
     has : HasItsBook f sample.connection sample.book its.link there.0
     has =
@@ -73,22 +84,27 @@ module _ {T U : Type 0} (f v : Fields T U) (view : v ≡ f) (sound : IsDomain f)
         (subst (λ (book : ℕ). get v.books book ≡ Some there.0) (sym its.book_is) there.1))
 
     lies : LiesAtHint f sample
-    lies = lies-there f sound sample.connection sample.book its.link there.0 has sample.subscriber sample.number sample.slot its.subscriber_is (record { borrowed = its.borrowed; number_is = there.2 })
+    lies = lies-there f sound sample.connection sample.book its.link there.0 has sample.subscriber sample.number
+        sample.slot its.subscriber_is (record { borrowed = its.borrowed; number_is = there.2 })
 
     pub returnable : IsReturnable f sample
     returnable = is-returnable f sample lies v view its.link its.stands its.marked
 
-  module _ (new : Slab Link) (books : Slab Book) (same : books ≡ v.books) (returns : ReturnsMessage v.connections v.books sample.connection message new) where
+  module _ (new : Slab Link) (books : Slab Book) (same : books ≡ v.books)
+      (returns : ReturnsMessage v.connections v.books sample.connection message new) where
     may : IsReturnable f sample
     may = returnable returns.is_last
 
     releases : ReleasesSlot v.connections sample.connection sample.slot new
-    releases = subst (λ (m : BorrowedMessage). ReleasesSlot v.connections sample.connection m.slot new) named returns.releases
+    releases =
+        subst (λ (m : BorrowedMessage). ReleasesSlot v.connections sample.connection m.slot new) named returns.releases
 
     -- the message was given back
-    pub gives-back : (p : ℕ) → IsTrue (is_borrowed sample.number ((state_of (kept_of f)).mailboxes p sample.subscriber)) → Reaches f (left_by v new books) (released (state_of (kept_of f)) p sample.subscriber sample.number)
+    pub gives-back : (p : ℕ) → IsTrue (is_borrowed sample.number ((state_of (kept_of f)).mailboxes p sample.subscriber))
+        → Reaches f (left_by v new books) (released (state_of (kept_of f)) p sample.subscriber sample.number)
     gives-back p borrowed =
-        subst (λ (slab : Slab Book). Reaches f (left_by v new slab) (released (state_of (kept_of f)) p sample.subscriber sample.number)) (sym same)
+        subst (λ (slab : Slab Book). Reaches f (left_by v new slab)
+        (released (state_of (kept_of f)) p sample.subscriber sample.number)) (sym same)
         (returns-here f sound sample may v view new releases returns.homes returns.others returns.stay p borrowed)
 
     pub gives-back-soundly : IsDomain (left_by v new books)

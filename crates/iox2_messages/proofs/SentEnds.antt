@@ -1,7 +1,8 @@
 -- How a send ended.
 use Rattle.iox2_messages.specs.SendEnds.{IsKept, IsNotLost}
 use Rattle.iox2_messages.specs.declared.send_end.SendEnd.{SendEnd}
-use Rattle.iox2_messages.specs.declared.send_end.SendEnd.TheVariants.{Delivered, Undelivered, Blocked, Lost, Unconnected}
+use Rattle.iox2_messages.specs.declared.send_end.SendEnd.TheVariants.{Delivered, Undelivered, Blocked, Lost}
+use Rattle.iox2_messages.specs.declared.send_end.SendEnd.TheVariants.{Unconnected}
 
 -- of a message that was sent the publisher was there
 pub not-lost : (end : SendEnd) → IsKept end → IsNotLost end

@@ -16,7 +16,8 @@ module _ {A : Type 0} (xs : List (Option A)) (place : ℕ) (x : A) (there : get_
   place-read o read = sym (read-there xs place x o there read) ∙ there
 
 -- a publisher of the fields
-module _ {T U : Type 0} (before f : Fields T U) (same : f ≡ before) (place : ℕ) (x : PublisherFields) (there : get_or before.publishers place None ≡ Some x) where
+module _ {T U : Type 0} (before f : Fields T U) (same : f ≡ before) (place : ℕ) (x : PublisherFields)
+    (there : get_or before.publishers place None ≡ Some x) where
   stands : get_or f.publishers place None ≡ Some x
   stands = ap (λ (h : Fields T U). get_or h.publishers place None) same ∙ there
 

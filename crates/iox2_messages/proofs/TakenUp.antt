@@ -11,14 +11,17 @@ use Rattle.iox2_domain.specs.Reaches.{Reaches}
 use Rattle.iox2_domain.specs.declared.publisher_state.BlockedDelivery.{BlockedDelivery}
 use Rattle.iox2_messages.specs.BlockedPublishers.{CanTakeUp}
 
-module _ {T U : Type 0} (f f' : Fields T U) (reaches : Reaches f f' (state_of (kept_of f))) (only : f' ≡ record f { connections = f'.connections; books = f'.books })
+module _ {T U : Type 0} (f f' : Fields T U) (reaches : Reaches f f' (state_of (kept_of f)))
+    (only : f' ≡ record f { connections = f'.connections; books = f'.books })
     (place : ℕ) (x : PublisherFields) (at : get_or f.publishers place None ≡ Some x) where
   -- it is as it was
   pub still : get_or f'.publishers place None ≡ Some x
   still = ap (λ (h : Fields T U). get_or h.publishers place None) only ∙ at
 
   -- and may take up its delivery where that can go on
-  abbrev pub may-take-up : (delivery : BlockedDelivery) → x.blocked ≡ Some delivery → (start : Progress) → (get_or f'.publishers place None ≡ Some x → CanGoOn x delivery start) → HasReclaimed f'.connections x.keys → CanTakeUp f' place start
+  abbrev pub may-take-up : (delivery : BlockedDelivery) → x.blocked ≡ Some delivery → (start : Progress)
+      → (get_or f'.publishers place None ≡ Some x → CanGoOn x delivery start) → HasReclaimed f'.connections x.keys
+      → CanTakeUp f' place start
   may-take-up delivery waits start can reclaimed = record {
     agrees = reaches.agrees;
     publisher = x;

@@ -19,8 +19,14 @@ pub have-channel-0 : (connections : Slab Link) → HaveChannel 0 connections
 have-channel-0 connections = record { at = λ key c at some. absurd (omega (arith, some)) }
 
 -- and the one of a blocked delivery
-pub have-blocked-channel : {T U : Type 0} (f : Fields T U) (sound : IsDomain f) (i : ℕ) (x : PublisherFields) → get_or f.publishers i None ≡ Some x → (w : BlockedDelivery) → x.blocked ≡ Some w → HaveChannel w.channel f.connections
-have-blocked-channel f sound i x here w waits = record { at = λ key c at some. omega (arith, known, sound.parts.linked.channel_counts key c at) } where
-  known : w.channel < channel_count f.config
-  known = ((sound.well_formed.publishers x.id (publisher_of f.books f.connections x).port (publisher-stands f sound.parts i x here)).blocked (waiting_send f x w)
-      (ap (option_map (blocked_send (number_in_slot f.books x.id) (sender_ends f.connections x.keys))) waits)).channel
+pub have-blocked-channel : {T U : Type 0} (f : Fields T U) (sound : IsDomain f) (i : ℕ) (x : PublisherFields)
+    → get_or f.publishers i None ≡ Some x → (w : BlockedDelivery) → x.blocked ≡ Some w
+    → HaveChannel w.channel f.connections
+have-blocked-channel f sound i x here w waits =
+    record { at = λ key c at some. omega (arith, known, sound.parts.linked.channel_counts key c at) } where
+      known : w.channel < channel_count f.config
+      known =
+          ((sound.well_formed.publishers x.id (publisher_of f.books f.connections x).port
+          (publisher-stands f sound.parts i x here)).blocked (waiting_send f x w)
+          (ap (option_map (blocked_send (number_in_slot f.books x.id) (sender_ends f.connections x.keys)))
+          waits)).channel

@@ -16,7 +16,8 @@ module _ {T U : Type 0} where
     pub publisher : PublisherFields
     pub stands : slice_index_or f.publishers place None ≡ Some publisher
 
-  -- A domain in which the publisher at the place, which has reclaimed what was given back, may take up its blocked delivery there.
+  -- A domain in which the publisher at the place, which has reclaimed what was given back, may take up its blocked
+  -- delivery there.
   pub record CanTakeUp (f : Fields T U) (place : ℕ) (start : Progress) : Type 0 where
     pub agrees : IsDomain f
     pub publisher : PublisherFields

@@ -13,9 +13,10 @@ use Rattle.iox2_domain.specs.Reaches.{Reaches}
 abbrev pub BehindClearing : {T U : Type 0} → (old : Fields T U) → (Fields T U → Type 0) → Type 0
 BehindClearing {T} {U} old P = (middle : Fields T U) × Reaches old middle (state_of (kept_of old)) × P middle
 
--- The publisher x at the place first lets go of what nobody holds any more, by which nothing changes that can be seen. Then it is
--- updated, with this failure if any.
-pub record CatchesUp {T U : Type 0} (environment : Environment) (old : Fields T U) (place : ℕ) (x : PublisherFields) (new : Fields T U) (failure : Option ConnectionFailure) : Type 0 where
+-- The publisher x at the place first lets go of what nobody holds any more, by which nothing changes that can be seen.
+-- Then it is updated, with this failure if any.
+pub record CatchesUp {T U : Type 0} (environment : Environment) (old : Fields T U) (place : ℕ) (x : PublisherFields)
+    (new : Fields T U) (failure : Option ConnectionFailure) : Type 0 where
   pub middle : Fields T U
   pub reaches : Reaches old middle (state_of (kept_of old))
   pub same : middle.publishers ≡ old.publishers

@@ -12,4 +12,5 @@ changed_channel SetHint channel = with_hint channel
 
 -- The connection, whose channel with that number, where it is in the state `expected`, is changed so.
 abbrev pub changed_link : ChannelChange → (number expected : ℕ) → Link → Link
-changed_link change number expected c = having_channels (channels_changed number expected (changed_channel change) c.channels) c
+changed_link change number expected c =
+    having_channels (channels_changed number expected (changed_channel change) c.channels) c

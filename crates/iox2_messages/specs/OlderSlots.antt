@@ -18,8 +18,8 @@ module _ {T U : Type 0} where
   abbrev pub LetsGoOfOlder : (slots : List ℕ) (start : ℕ) → List (ContentState T U) → Type 0
   LetsGoOfOlder slots start contents = All (λ slot. slot < start → SomeAt contents slot IsGivenUp) slots
 
-  -- What lay in some older slots of the publisher that nobody holds is given up. What lies in the others stays, and nothing else
-  -- changes.
+  -- What lay in some older slots of the publisher that nobody holds is given up. What lies in the others stays, and
+  -- nothing else changes.
   pub record ClearsOlder (f : Fields T U) (x : PublisherFields) (f' : Fields T U) : Type 0 where
     pub book : Book
     pub stood : get f.books x.book ≡ Some book

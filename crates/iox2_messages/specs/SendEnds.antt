@@ -1,8 +1,10 @@
 -- How a send ended.
 use Rattle.iox2_machine.specs.machine.Sends.{SendResult, Delivered_to, Blocked_send, Send_error}
-use Rattle.iox2_machine.specs.declared.errors.SendError.TheVariants.{ConnectionBrokenSinceSenderNoLongerExists, ConnectionError, UnableToDeliver}
+use Rattle.iox2_machine.specs.declared.errors.SendError.TheVariants.{ConnectionBrokenSinceSenderNoLongerExists}
+use Rattle.iox2_machine.specs.declared.errors.SendError.TheVariants.{ConnectionError, UnableToDeliver}
 use Rattle.iox2_messages.specs.declared.send_end.SendEnd.{SendEnd}
-use Rattle.iox2_messages.specs.declared.send_end.SendEnd.TheVariants.{Delivered, Undelivered, Blocked, Lost, Unconnected}
+use Rattle.iox2_messages.specs.declared.send_end.SendEnd.TheVariants.{Delivered, Undelivered, Blocked, Lost}
+use Rattle.iox2_messages.specs.declared.send_end.SendEnd.TheVariants.{Unconnected}
 
 -- The machine's result of a send that ended so.
 abbrev pub end_result : SendEnd → SendResult

@@ -9,7 +9,8 @@ use Rattle.iox2_domain.specs.Closes.{LeavesAt}
 use Rattle.iox2_domain.specs.Ports.{SubscriberFields}
 
 -- The publisher p has left its connections at these keys, and its book counts no holder any more that went with them.
-pub record LeavesCounted (p : ℕ) (subscribers : List (Option SubscriberFields)) (keys : ℕ → Type 0) (old : Slab Link) (before : Book) (new : Slab Link) (after : Book) : Type 0 where
+pub record LeavesCounted (p : ℕ) (subscribers : List (Option SubscriberFields)) (keys : ℕ → Type 0) (old : Slab Link)
+    (before : Book) (new : Slab Link) (after : Book) : Type 0 where
   pub connections : LeavesAt p subscribers keys old new
   pub book : after ≡ with_counters before after.holders
   pub counters : CountersFollow p before.holders old.slots after.holders new.slots

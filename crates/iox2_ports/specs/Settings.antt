@@ -8,4 +8,5 @@ use Rattle.iox2_ports.specs.declared.segments.SegmentOptions.{SegmentOptions}
 
 -- The settings of a publisher with these options and this handler of full buffers, whose slots are allocated so.
 abbrev pub settings_with : PublisherOptions → Option (Handler BackpressureAction) → SegmentOptions → PublisherSettings
-settings_with given handler segments = record (growing_publisher given handler segments.allocation) { asked_slots = segments.asked_slots }
+settings_with given handler segments =
+    record (growing_publisher given handler segments.allocation) { asked_slots = segments.asked_slots }

@@ -15,22 +15,27 @@ use Rattle.iox2_pubsub.proofs.FullDomains.{ids_of, is-among, no-other}
 use Rattle.iox2_pubsub.proofs.LiveParts.{subscriber-parts}
 
 module _ {T U F G : Type 0} (domain : Kept T U F G) where
-  there : (subscribers : List Subscriber) → AreLiveKeys domain subscribers → (q : ℕ) → contains (ids_of subscribers) q ≡ true → (y : MachineSubscriber) × ((state_of domain).subscribers q ≡ Some y)
+  there : (subscribers : List Subscriber) → AreLiveKeys domain subscribers → (q : ℕ)
+      → contains (ids_of subscribers) q ≡ true → (y : MachineSubscriber) × ((state_of domain).subscribers q ≡ Some y)
   there [] live q at = absurd (true≢false (sym at))
   there (subscriber ∷ others) live q at =
       ⊎_elim
-      (λ same. let has = (subscriber-parts domain (subscriber_key subscriber) live.0).2 in (has.0, ap (state_of domain).subscribers (sym same) ∙ has.1))
+      (λ same. let has = (subscriber-parts domain (subscriber_key subscriber) live.0).2 in
+      (has.0, ap (state_of domain).subscribers (sym same) ∙ has.1))
       (λ later. there others live.1 q later)
       (contains_in_cons subscriber.id q (ids_of others) at)
 
   -- it has no other
-  pub no_other_subscriber : IsConsistent domain → (subscribers : List Subscriber) → AreAllSubscribers domain subscribers → (key : Key) → IsSubscriberKey domain key → IsAmong key.port subscribers
+  pub no_other_subscriber : IsConsistent domain → (subscribers : List Subscriber) → AreAllSubscribers domain subscribers
+      → (key : Key) → IsSubscriberKey domain key → IsAmong key.port subscribers
   no_other_subscriber consistent subscribers all key live =
       let has = (subscriber-parts domain key live).2 in
-      is-among key.port subscribers (no-other (state_of domain) (well domain consistent) subscribers all.different all.full (there subscribers all.live) key.port has.0 has.1)
+      is-among key.port subscribers (no-other (state_of domain)
+      (well domain consistent) subscribers all.different all.full (there subscribers all.live) key.port has.0 has.1)
 
 -- nor has it one after a call that leaves all that is live
-pub all_subscribers_stay : {T U F G : Type 0} (old new : Kept T U F G) → Stays old new → (subscribers : List Subscriber) → AreAllSubscribers old subscribers → AreAllSubscribers new subscribers
+pub all_subscribers_stay : {T U F G : Type 0} (old new : Kept T U F G) → Stays old new → (subscribers : List Subscriber)
+    → AreAllSubscribers old subscribers → AreAllSubscribers new subscribers
 all_subscribers_stay {T} {U} {F} {G} old new stays subscribers all = record {
   live = each subscribers all.live;
   different = all.different;

@@ -26,14 +26,18 @@ use Rattle.iox2_pubsub.specs.declared.send_outcome.SendOutcome.{SendOutcome}
 use Rattle.iox2_pubsub.proofs.LiveParts.{written-parts}
 
 -- a written loan is out for the publisher that its handle names
-pub written-lender : {T U F G : Type 0} (kept : Kept T U F G) (loan : SampleMut) → IsWritten kept loan → (m : Messages T U) (s : State T U) → Shows kept m s → (l : Loan T U)
+pub written-lender : {T U F G : Type 0} (kept : Kept T U F G) (loan : SampleMut) → IsWritten kept loan
+    → (m : Messages T U) (s : State T U) → Shows kept m s → (l : Loan T U)
     → s.loans loan.loan.number ≡ Some l → l.publisher ≡ loan.loan.publisher
 written-lender {T} {U} kept loan live m s shown l out =
     let has = (written-parts kept loan live).1 in
-    ap (λ (x : Loan T U). x.publisher) (same_Some l has.0 (sym out ∙ ap (λ (t : State T U). t.loans loan.loan.number) shown.state ∙ has.1)) ∙ has.2
+    ap (λ (x : Loan T U). x.publisher)
+    (same_Some l has.0 (sym out ∙ ap (λ (t : State T U). t.loans loan.loan.number) shown.state ∙ has.1)) ∙ has.2
 
-module _ {T U F G : Type 0} (allows : F → BackpressureInfo → BackpressureAction → Type 0) (degrades : G → DegradationCause → DegradationInfo → DegradationAction → Type 0)
-    (old new : Kept T U F G) (p : ℕ) (same : handler_box new p ≡ handler_box old p) (degrading : degradation_box new p ≡ degradation_box old p) where
+module _ {T U F G : Type 0} (allows : F → BackpressureInfo → BackpressureAction → Type 0)
+    (degrades : G → DegradationCause → DegradationInfo → DegradationAction → Type 0)
+    (old new : Kept T U F G) (p : ℕ) (same : handler_box new p ≡ handler_box old p)
+    (degrading : degradation_box new p ≡ degradation_box old p) where
   -- the boxes that answer before, and those that do after
   abbrev before : Environment
   before = answers_of allows degrades (old.boxes).publishers
@@ -48,7 +52,8 @@ module _ {T U F G : Type 0} (allows : F → BackpressureInfo → BackpressureAct
   box-alike q is (Some (Fixed action)) = tt
   box-alike q is (Some Custom) = λ info action answers.
       let alike : box_of q (new.boxes).publishers ≡ box_of q (old.boxes).publishers =
-      ap (λ (i : ℕ). box_of i (new.boxes).publishers) is ∙ same ∙ ap (λ (i : ℕ). box_of i (old.boxes).publishers) (sym is) in
+      ap (λ (i : ℕ). box_of i (new.boxes).publishers) is ∙ same
+      ∙ ap (λ (i : ℕ). box_of i (old.boxes).publishers) (sym is) in
       subst (λ (box : Option F). BoxAnswers allows box info action) alike answers
 
   degradation-alike : (q : ℕ) → q ≡ p → (h : Handler DegradationAction) → AllowsDegradation after before q h
@@ -56,11 +61,13 @@ module _ {T U F G : Type 0} (allows : F → BackpressureInfo → BackpressureAct
   degradation-alike q is (Fixed action) = tt
   degradation-alike q is Custom = λ info action answers.
       let alike : degradation_box_of q (new.boxes).publishers ≡ degradation_box_of q (old.boxes).publishers =
-      ap (λ (i : ℕ). degradation_box_of i (new.boxes).publishers) is ∙ degrading ∙ ap (λ (i : ℕ). degradation_box_of i (old.boxes).publishers) (sym is) in
+      ap (λ (i : ℕ). degradation_box_of i (new.boxes).publishers) is ∙ degrading
+      ∙ ap (λ (i : ℕ). degradation_box_of i (old.boxes).publishers) (sym is) in
       subst (λ (box : Option G). BoxDegrades degrades box NotEstablished info action) alike answers
 
   -- what a publisher sends where it has kept its boxes
-  pub sends-kept : (s : State T U) (n : ℕ) (l : Loan T U) (result : Result SendOutcome SendError) (s' : State T U) → l.publisher ≡ p
+  pub sends-kept : (s : State T U) (n : ℕ) (l : Loan T U) (result : Result SendOutcome SendError) (s' : State T U)
+      → l.publisher ≡ p
       → Sends after s n l result s' → Sends before s n l result s'
   sends-kept s n l result s' its sends =
       sends-alike after before s n l s' (result_of_send result)

@@ -20,8 +20,10 @@ use Rattle.iox2_pubsub.proofs.BorrowsLeftShown.{subscriber-close-borrows}
 use Rattle.iox2_pubsub.proofs.LoansLeftShown.{subscriber-close-left as subscriber-close-loans}
 use Rattle.iox2_pubsub.proofs.StaysBut.{BoxesStayBut}
 
-module _ {T U F G : Type 0} {boxes : DomainBoxes F G} (f : Fields T U) (old new : Kept T U F G) (sound : IsDomain f) (view : keeping boxes f ≡ old) (it : Subscriber) (there : IsSubscriberKey old (subscriber_key it))
-    (closes : (m : Messages T U) (s : State T U) (y : Record) → Shows old m s → s.subscribers it.id ≡ Some y → Shows new m (subscriber_closed s it.id y)) where
+module _ {T U F G : Type 0} {boxes : DomainBoxes F G} (f : Fields T U) (old new : Kept T U F G) (sound : IsDomain f)
+    (view : keeping boxes f ≡ old) (it : Subscriber) (there : IsSubscriberKey old (subscriber_key it))
+    (closes : (m : Messages T U) (s : State T U) (y : Record) → Shows old m s → s.subscribers it.id ≡ Some y
+    → Shows new m (subscriber_closed s it.id y)) where
   pub subscriber-close-left : BoxesStayBut (A_subscriber it.id) old new → LeavesWithout it old new
   subscriber-close-left boxed =
       let has = subscriber-shown f old sound view _ there in

@@ -18,7 +18,8 @@ use Rattle.iox2_pubsub.proofs.StaysBut.{same-boxes}
 use Rattle.iox2_pubsub.proofs.UpToDateShown.{discard-leaves}
 use Rattle.iox2_pubsub.proofs.WaitingShown.{discard-waits}
 
-module _ {T U F G : Type 0} {boxes : DomainBoxes F G} (f g : Fields T U) (sound : IsDomain f) (kept : Kept T U F G) (view : keeping boxes f ≡ kept) (key : Key) (live : IsLoanKey kept key)
+module _ {T U F G : Type 0} {boxes : DomainBoxes F G} (f g : Fields T U) (sound : IsDomain f) (kept : Kept T U F G)
+    (view : keeping boxes f ≡ kept) (key : Key) (live : IsLoanKey kept key)
     (discards : DiscardsLoan f g key.message) where
   pub discarded : IsDiscarded key kept (keeping boxes g)
   discarded =
@@ -32,7 +33,8 @@ module _ {T U F G : Type 0} {boxes : DomainBoxes F G} (f g : Fields T U) (sound 
         spent = discard-spends kept new it.0 it.1 it.2 key.message l step key refl;
         given_back = discard-gives kept new it.0 it.0 it.1 _ it.2 step key.message l (it.3).1 key.port (it.3).2 refl;
         leaves = record {
-          stays = discard-stays kept new it.0 it.1 it.2 key.message l step (same-boxes f g kept view sound discards.2.places);
+          stays = discard-stays kept new it.0 it.1 it.2 key.message l step
+              (same-boxes f g kept view sound discards.2.places);
           waits = discard-waits kept new it.0 it.1 it.2 key.message l step;
           up_to_date = discard-leaves kept new it.0 it.1 it.2 key.message l step;
           loans_left = discard-left kept new it.0 it.0 it.1 _ it.2 step key.message l (it.3).1 refl;

@@ -100,7 +100,10 @@ module _ {T U : Type 0} (config : ServiceConfig) (v c v' c' : ℕ) where
       warning_room = refl;
       shapes = record { at = λ key slot b m at _. absurd (nothing_at key b at) };
       forms = record { at = λ several key cs at. absurd cc; cells = λ several lists key cs at. absurd cc };
-      open_loans = record { at = λ i slot x at _. absurd (nothing_at i x at); lists = λ i x cs at _. absurd (nothing_at i x at) };
+      open_loans = record {
+        at = λ i slot x at _. absurd (nothing_at i x at);
+        lists = λ i x cs at _. absurd (nothing_at i x at);
+      };
       plain = λ i x at. absurd (nothing_at i x at);
     };
     kept_books = record { at = λ key b at. absurd (nothing_at key b at) };
@@ -121,13 +124,18 @@ module _ {T U : Type 0} (config : ServiceConfig) (v c v' c' : ℕ) where
 
 -- what holds at empty slabs holds at all whose lists are empty
 module _ {A B : Type 0} (P : Slab A → Slab B → Type 0) where
-  at_empty : (s : Slab A) (t : Slab B) → s.slots ≡ [] → t.slots ≡ [] → P (empty_slab s.vacant_key s.capacity) (empty_slab t.vacant_key t.capacity) → P s t
+  at_empty : (s : Slab A) (t : Slab B) → s.slots ≡ [] → t.slots ≡ []
+      → P (empty_slab s.vacant_key s.capacity) (empty_slab t.vacant_key t.capacity) → P s t
   at_empty s t e f h =
-      let with_first : List (Option A) → Type 0 = λ xs. P (record { slots = xs; vacant_key = s.vacant_key; capacity = s.capacity }) (empty_slab t.vacant_key t.capacity) in
-      let with_second : List (Option B) → Type 0 = λ ys. P s (record { slots = ys; vacant_key = t.vacant_key; capacity = t.capacity }) in
+      let with_first : List (Option A) → Type 0 =
+      λ xs. P (record { slots = xs; vacant_key = s.vacant_key; capacity = s.capacity })
+      (empty_slab t.vacant_key t.capacity) in
+      let with_second : List (Option B) → Type 0 =
+      λ ys. P s (record { slots = ys; vacant_key = t.vacant_key; capacity = t.capacity }) in
       subst with_second (sym f) (subst with_first (sym e) h)
 
-module _ {T U : Type 0} (config : ServiceConfig) (connections : Slab Link) (books : Slab Book) (e : connections.slots ≡ []) (f : books.slots ≡ []) where
+module _ {T U : Type 0} (config : ServiceConfig) (connections : Slab Link) (books : Slab Book)
+    (e : connections.slots ≡ []) (f : books.slots ≡ []) where
   fresh_is_domain : IsDomain {T = T} {U = U} (fresh_fields config connections books)
   fresh_is_domain =
       at_empty (λ s t. IsDomain {T = T} {U = U} (fresh_fields config s t)) connections books e f
@@ -135,7 +143,8 @@ module _ {T U : Type 0} (config : ServiceConfig) (connections : Slab Link) (book
 
   fresh_is_shown : Shows {T = T} {U = U} (kept_of (fresh_fields config connections books)) no_messages (fresh config)
   fresh_is_shown =
-      at_empty (λ s t. Shows {T = T} {U = U} (kept_of (fresh_fields config s t)) no_messages (fresh config)) connections books e f
+      at_empty (λ s t. Shows {T = T} {U = U} (kept_of (fresh_fields config s t)) no_messages (fresh config)) connections
+      books e f
       (shows config connections.vacant_key connections.capacity books.vacant_key books.capacity)
 
 module _ {T U : Type 0} (config : ServiceConfig) (f : Fields T U) (is : IsFresh config f) where
@@ -158,4 +167,5 @@ module _ {T U : Type 0} (config : ServiceConfig) (f : Fields T U) (is : IsFresh 
 
   -- and they show the fresh state
   pub new_is_shown : Shows (kept_of f) no_messages (fresh config)
-  new_is_shown = subst (λ (g : Fields T U). Shows (kept_of g) no_messages (fresh config)) (sym fields-are) (fresh_is_shown config f.connections f.books is.connections is.books)
+  new_is_shown = subst (λ (g : Fields T U). Shows (kept_of g) no_messages (fresh config)) (sym fields-are)
+      (fresh_is_shown config f.connections f.books is.connections is.books)

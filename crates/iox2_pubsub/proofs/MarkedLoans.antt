@@ -32,7 +32,8 @@ module _ {T U : Type 0} where
     is_its : HoldsLoan (state_of (kept_of f)) p n
     is_its = (found-out f p n (Some (record { book = key; slot = slot })) at true refl).0 refl
 
-    module _ (b : Book) (here : get f.books key ≡ Some b) (mark : SlotMark) (read : slice_get b.marks slot ≡ Some mark) where
+    module _ (b : Book) (here : get f.books key ≡ Some b) (mark : SlotMark)
+        (read : slice_get b.marks slot ≡ Some mark) where
       lies : LiesIn at.book (contents_at f.contents key) slot (Lent_message n at.loan)
       lies = message_in-parts at.book (contents_at f.contents key) slot (Lent_message n at.loan) at.lies
 
@@ -40,31 +41,44 @@ module _ {T U : Type 0} where
       same-mark =
           let books : Some at.book ≡ Some b = sym at.stands ∙ here in
           let book : at.book ≡ b = cc in
-          let both : Some lies.mark ≡ Some mark = sym lies.marks ∙ ap (λ (c : Book). slice_get c.marks slot) book ∙ read in
+          let both : Some lies.mark ≡ Some mark =
+          sym lies.marks ∙ ap (λ (c : Book). slice_get c.marks slot) book ∙ read in
           cc
 
       -- its mark says whether it is written
       pub mark-tells : (at.loan).is_written ≡ written_mark mark
       mark-tells = by lies.mark lies.is ∙ ap written_mark same-mark where
-        by : (mark' : SlotMark) → Lent_message n at.loan ≡ message_of (at.book).publisher (slice_index (at.book).numbers slot) lies.header lies.content mark'
+        by : (mark' : SlotMark) → Lent_message n at.loan ≡ message_of (at.book).publisher
+            (slice_index (at.book).numbers slot) lies.header lies.content mark'
             → (at.loan).is_written ≡ written_mark mark'
         by Unwritten e = ap is_written_message e
         by Written e = ap is_written_message e
         by Sent e = absurd cc
 
       pub marks-loan : HoldsMarked (state_of (kept_of f)) p n (written_mark mark)
-      marks-loan = (at.loan, at.is_out, ap (λ (l : Loan T U). l.publisher) (sym (same-loan f p n key slot at is_its.0 is_its.1)) ∙ is_its.2, mark-tells)
+      marks-loan = (
+        at.loan,
+        at.is_out,
+        ap (λ (l : Loan T U). l.publisher)
+            (sym (same-loan f p n key slot at is_its.0 is_its.1)) ∙ is_its.2,
+        mark-tells,
+      )
 
   -- one that is out is written as its mark says, and not otherwise
-  pub marked-so : (s : State T U) (p n : ℕ) (mark wants : Bool) → HoldsMarked s p n mark → (mark ≡ wants) ↔ HoldsMarked s p n wants
+  pub marked-so : (s : State T U) (p n : ℕ) (mark wants : Bool) → HoldsMarked s p n mark
+      → (mark ≡ wants) ↔ HoldsMarked s p n wants
   marked-so s p n mark wants held = (
     λ same. (held.0, held.1, held.2, held.3 ∙ same),
     λ has. sym held.3 ∙ ap (λ (l : Loan T U). l.is_written) (same_Some held.0 has.0 (sym held.1 ∙ has.1)) ∙ has.3,
   )
 
   -- and in a domain it is named by its key
-  pub marked-key : {F G : Type 0} (kept : Kept T U F G) (key : Key) (wants : Bool) → key.service_id ≡ (kept.config).service_id → HoldsMarked (state_of kept) key.port key.message wants ↔ (IsLoanKey kept key × HasMark kept key.message wants)
+  pub marked-key : {F G : Type 0} (kept : Kept T U F G) (key : Key) (wants : Bool)
+      → key.service_id ≡ (kept.config).service_id → HoldsMarked (state_of kept) key.port key.message wants
+      ↔ (IsLoanKey kept key × HasMark kept key.message wants)
   marked-key kept key wants service = (
-    λ held. (loan-live kept key (service, (held.0, held.1, held.2)), has-mark kept key.message wants held.0 held.1 held.3),
-    λ both. let held = (loan-parts kept key both.0).1 in (held.0, held.1, held.2, marked kept key.port key.message held.0 held.1 held.2 wants both.1),
+    λ held.
+        (loan-live kept key (service, (held.0, held.1, held.2)), has-mark kept key.message wants held.0 held.1 held.3),
+    λ both. let held = (loan-parts kept key both.0).1 in
+        (held.0, held.1, held.2, marked kept key.port key.message held.0 held.1 held.2 wants both.1),
   )

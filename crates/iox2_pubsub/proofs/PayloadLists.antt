@@ -1,5 +1,6 @@
 -- Lists of payloads: how long they are, when they stay, and what holds of each.
-use Rattle.std.proofs.Common.{◌≡◌, ℕ, zero, suc, ◌+◌, ◌<◌, ◌≤◌, true, false, Option, subst, List, [], ◌∷◌, ◌++◌, map, length, refl, sym, ap, ◌∙◌, arith, inl, inr}
+use Rattle.std.proofs.Common.{◌≡◌, ℕ, zero, suc, ◌+◌, ◌<◌, ◌≤◌, true, false, Option, subst, List, [], ◌∷◌, ◌++◌, map}
+use Rattle.std.proofs.Common.{length, refl, sym, ap, ◌∙◌, arith, inl, inr}
 use Rattle.std.specs.List.{AllByRecursion}
 use Rattle.std.specs.Option.{option_map_or}
 use Rattle.iox2_machine.specs.machine.Records.{Entry}
@@ -22,9 +23,11 @@ pub all_same : {X : Type 0} (f g : ℕ → List X) (n : ℕ) → ((p : ℕ) → 
 all_same f g zero each = refl
 all_same f g (suc n) each = ap (λ xs. xs ++ f n) (all_same f g n each) ∙ ap (λ xs. all_below g n ++ xs) (each n)
 
-pub map_same : {X : Type 0} (f g : ℕ → X) (ns : List ℕ) → ((n : ℕ) → contains ns n ≡ true → f n ≡ g n) → map f ns ≡ map g ns
+pub map_same : {X : Type 0} (f g : ℕ → X) (ns : List ℕ) → ((n : ℕ) → contains ns n ≡ true → f n ≡ g n)
+    → map f ns ≡ map g ns
 map_same f g [] each = refl
-map_same f g (n ∷ ns) each = ap (λ x. x ∷ map f ns) (each n (contains_first n ns)) ∙ ap (λ xs. g n ∷ xs) (map_same f g ns (λ m at. each m (contains_later n m ns at)))
+map_same f g (n ∷ ns) each = ap (λ x. x ∷ map f ns) (each n (contains_first n ns))
+    ∙ ap (λ xs. g n ∷ xs) (map_same f g ns (λ m at. each m (contains_later n m ns at)))
 
 -- ---- a part of all
 
@@ -45,7 +48,8 @@ two_parts f p o (suc n) low less apart = elim (cases_eq n p) [
         let last : f n ≡ f o = ap f here in
         let other : f p ≤ sum_below f n = sum_part f p n (below p away low) in
         omega arith
-    | inr far ↦ let both : f p + f o ≤ sum_below f n = two_parts f p o n (below p away low) (below o far less) apart in omega arith
+    | inr far ↦ let both : f p + f o ≤ sum_below f n = two_parts f p o n (below p away low) (below o far less) apart in
+        omega arith
   ]
 ]
   where
@@ -61,7 +65,8 @@ none_below f (suc n) none =
     ap (λ xs. xs ++ f n) (none_below f n before) ∙ no_length (f n) last
 
 -- where all are as many as one list has, they are that list
-pub only_below : {X : Type 0} (f : ℕ → List X) (p n : ℕ) → p < n → sum_below (λ i. length (f i)) n ≡ length (f p) → all_below f n ≡ f p
+pub only_below : {X : Type 0} (f : ℕ → List X) (p n : ℕ) → p < n → sum_below (λ i. length (f i)) n ≡ length (f p)
+    → all_below f n ≡ f p
 only_below f p zero low same = absurd (omega arith)
 only_below f p (suc n) low same = elim (cases_eq n p) [
   | inl here ↦
@@ -72,7 +77,8 @@ only_below f p (suc n) low same = elim (cases_eq n p) [
       let part : length (f p) ≤ sum_below (λ i. length (f i)) n = sum_part (λ i. length (f i)) p n (omega arith) in
       let last : length (f n) ≡ 0 = omega arith in
       let before : sum_below (λ i. length (f i)) n ≡ length (f p) = omega arith in
-      ap (λ xs. all_below f n ++ xs) (no_length (f n) last) ∙ append-nil (all_below f n) ∙ only_below f p n (omega arith) before
+      ap (λ xs. all_below f n ++ xs) (no_length (f n) last) ∙ append-nil (all_below f n)
+      ∙ only_below f p n (omega arith) before
 ]
 
 -- ---- what holds of each
@@ -92,7 +98,8 @@ module _ {X : Type 0} (P : X → Type 0) where
 
   each_mapped : (f : ℕ → X) (ns : List ℕ) → ((n : ℕ) → contains ns n ≡ true → P (f n)) → AllByRecursion P (map f ns)
   each_mapped f [] each = tt
-  each_mapped f (n ∷ ns) each = (each n (contains_first n ns), each_mapped f ns (λ m at. each m (contains_later n m ns at)))
+  each_mapped f (n ∷ ns) each =
+      (each n (contains_first n ns), each_mapped f ns (λ m at. each m (contains_later n m ns at)))
 
   mapped_at : (f : ℕ → X) (ns : List ℕ) → AllByRecursion P (map f ns) → (n : ℕ) → contains ns n ≡ true → P (f n)
   mapped_at f [] h n at = let clash : false ≡ true = at in absurd cc
@@ -117,27 +124,37 @@ module _ {T U : Type 0} where
   pub length-payloads : (s : State T U) (m : Messages T U) (q : ℕ) → length (payloads_for s m q) ≡ waiting_for s q
   length-payloads s m q =
       length-all_below (λ p. map (payload_of m) (waiting_from s p q)) s.next_port
-      ∙ sum_same (λ p. length (map (payload_of m) (waiting_from s p q))) (λ p. length (waiting_from s p q)) s.next_port (λ p _. length-map (waiting_from s p q) (payload_of m))
+      ∙ sum_same (λ p. length (map (payload_of m) (waiting_from s p q))) (λ p. length (waiting_from s p q)) s.next_port
+      (λ p _. length-map (waiting_from s p q) (payload_of m))
 
   -- they stay where the same messages wait and are the same
-  pub parts_same : (s s' : State T U) (m m' : Messages T U) (q : ℕ) → ((p : ℕ) → waiting_from s' p q ≡ waiting_from s p q)
+  pub parts_same : (s s' : State T U) (m m' : Messages T U) (q : ℕ)
+      → ((p : ℕ) → waiting_from s' p q ≡ waiting_from s p q)
       → ((p n : ℕ) → contains (waiting_from s p q) n ≡ true → m' n ≡ m n)
       → (p : ℕ) → map (payload_of m') (waiting_from s' p q) ≡ map (payload_of m) (waiting_from s p q)
   parts_same s s' m m' q same kept p =
       ap (map (payload_of m')) (same p)
-      ∙ map_same (payload_of m') (payload_of m) (waiting_from s p q) (λ n at. ap (λ (o : Option (Entry T U)). option_map_or (λ (entry : Entry T U). entry.values) o []) (kept p n at))
+      ∙ map_same (payload_of m') (payload_of m) (waiting_from s p q)
+      (λ n at. ap (λ (o : Option (Entry T U)). option_map_or (λ (entry : Entry T U). entry.values) o []) (kept p n at))
 
-  pub payloads_same : (s s' : State T U) (m m' : Messages T U) (q : ℕ) → s'.next_port ≡ s.next_port → ((p : ℕ) → waiting_from s' p q ≡ waiting_from s p q)
+  pub payloads_same : (s s' : State T U) (m m' : Messages T U) (q : ℕ) → s'.next_port ≡ s.next_port
+      → ((p : ℕ) → waiting_from s' p q ≡ waiting_from s p q)
       → ((p n : ℕ) → contains (waiting_from s p q) n ≡ true → m' n ≡ m n) → payloads_for s' m' q ≡ payloads_for s m q
   payloads_same s s' m m' q ports same kept =
-      all_same (λ p. map (payload_of m') (waiting_from s' p q)) (λ p. map (payload_of m) (waiting_from s p q)) s'.next_port (parts_same s s' m m' q same kept)
+      all_same (λ p. map (payload_of m') (waiting_from s' p q))
+      (λ p. map (payload_of m) (waiting_from s p q)) s'.next_port (parts_same s s' m m' q same kept)
       ∙ ap (all_below (λ p. map (payload_of m) (waiting_from s p q))) ports
 
   -- what holds of each that waits
-  pub each_payload : (P : List T → Type 0) (s : State T U) (m : Messages T U) (q : ℕ) → ((p n : ℕ) → contains (waiting_from s p q) n ≡ true → P (payload_of m n)) → AllByRecursion P (payloads_for s m q)
-  each_payload P s m q each = each_below P (λ p. map (payload_of m) (waiting_from s p q)) s.next_port (λ p. each_mapped P (payload_of m) (waiting_from s p q) (each p))
+  pub each_payload : (P : List T → Type 0) (s : State T U) (m : Messages T U) (q : ℕ)
+      → ((p n : ℕ) → contains (waiting_from s p q) n ≡ true → P (payload_of m n))
+      → AllByRecursion P (payloads_for s m q)
+  each_payload P s m q each = each_below P (λ p. map (payload_of m) (waiting_from s p q)) s.next_port
+      (λ p. each_mapped P (payload_of m) (waiting_from s p q) (each p))
 
-  pub payload_at : (P : List T → Type 0) (s : State T U) (m : Messages T U) (q : ℕ) → AllByRecursion P (payloads_for s m q)
+  pub payload_at : (P : List T → Type 0) (s : State T U) (m : Messages T U) (q : ℕ)
+      → AllByRecursion P (payloads_for s m q)
       → (p n : ℕ) → p < s.next_port → contains (waiting_from s p q) n ≡ true → P (payload_of m n)
   payload_at P s m q all p n low at =
-      mapped_at P (payload_of m) (waiting_from s p q) (each_part P (λ i. map (payload_of m) (waiting_from s i q)) s.next_port all p low) n at
+      mapped_at P (payload_of m) (waiting_from s p q)
+      (each_part P (λ i. map (payload_of m) (waiting_from s i q)) s.next_port all p low) n at

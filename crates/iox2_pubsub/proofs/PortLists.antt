@@ -4,13 +4,17 @@ use Rattle.std.proofs.lemmas.Bool.{eq-eqb, or_parts, true≢false}
 use Rattle.iox2_machine.specs.machine.Numbers.{contains}
 use Rattle.iox2_domain.specs.Kept.{Kept}
 use Rattle.iox2_pubsub.specs.AllSubscribers.{AreLiveKeys, IsNotAmong}
-use Rattle.iox2_pubsub.specs.Live.{A_publisher, A_subscriber, Both, IsNewIn, IsOtherBlocked, IsOtherLoan, IsOtherPublisher, IsOtherSample, IsOtherSubscriber, Item, StaysBut, publisher_ports, subscriber_key, subscriber_ports}
+use Rattle.iox2_pubsub.specs.Live.{A_publisher, A_subscriber, Both, IsNewIn, IsOtherBlocked, IsOtherLoan}
+use Rattle.iox2_pubsub.specs.Live.{IsOtherPublisher, IsOtherSample, IsOtherSubscriber, Item, StaysBut, publisher_ports}
+use Rattle.iox2_pubsub.specs.Live.{subscriber_key, subscriber_ports}
 use Rattle.iox2_pubsub.specs.declared.subscriber.Subscriber.{Subscriber}
-use Rattle.iox2_pubsub.proofs.StaysBut.{both-new, first-part, nothing-is-new, second-part, stays-but-whole, stays-itself, stays-twice}
+use Rattle.iox2_pubsub.proofs.StaysBut.{both-new, first-part, nothing-is-new, second-part, stays-but-whole}
+use Rattle.iox2_pubsub.proofs.StaysBut.{stays-itself, stays-twice}
 
 module _ {T U F G : Type 0} where
   -- what one call spends, and then another, is both
-  pub stays_but_both : (first second : Item) (start old new : Kept T U F G) → StaysBut first start old → StaysBut second old new → StaysBut (Both first second) start new
+  pub stays_but_both : (first second : Item) (start old new : Kept T U F G) → StaysBut first start old
+      → StaysBut second old new → StaysBut (Both first second) start new
   stays_but_both first second start old new before next =
       stays-twice (Both first second) start old new
       (stays-but-whole first (Both first second) (first-part first second) start old before)
@@ -21,37 +25,48 @@ module _ {T U F G : Type 0} where
   none_closed = stays-itself
 
   -- the subscribers that were closed, and one more
-  pub subscriber_closed_too : (id : ℕ) (ids : List ℕ) (start old new : Kept T U F G) → StaysBut (subscriber_ports ids) start old → StaysBut (A_subscriber id) old new
+  pub subscriber_closed_too : (id : ℕ) (ids : List ℕ) (start old new : Kept T U F G)
+      → StaysBut (subscriber_ports ids) start old → StaysBut (A_subscriber id) old new
       → StaysBut (subscriber_ports (id ∷ ids)) start new
   subscriber_closed_too id ids start old new before next =
       stays-twice (subscriber_ports (id ∷ ids)) start old new
-      (stays-but-whole (subscriber_ports ids) (subscriber_ports (id ∷ ids)) (second-part (A_subscriber id) (subscriber_ports ids)) start old before)
-      (stays-but-whole (A_subscriber id) (subscriber_ports (id ∷ ids)) (first-part (A_subscriber id) (subscriber_ports ids)) old new next)
+      (stays-but-whole (subscriber_ports ids) (subscriber_ports (id ∷ ids))
+      (second-part (A_subscriber id) (subscriber_ports ids)) start old before)
+      (stays-but-whole (A_subscriber id) (subscriber_ports (id ∷ ids))
+      (first-part (A_subscriber id) (subscriber_ports ids)) old new next)
 
   -- and so with publishers
-  pub publisher_closed_too : (id : ℕ) (ids : List ℕ) (start old new : Kept T U F G) → StaysBut (publisher_ports ids) start old → StaysBut (A_publisher id) old new
+  pub publisher_closed_too : (id : ℕ) (ids : List ℕ) (start old new : Kept T U F G)
+      → StaysBut (publisher_ports ids) start old → StaysBut (A_publisher id) old new
       → StaysBut (publisher_ports (id ∷ ids)) start new
   publisher_closed_too id ids start old new before next =
       stays-twice (publisher_ports (id ∷ ids)) start old new
-      (stays-but-whole (publisher_ports ids) (publisher_ports (id ∷ ids)) (second-part (A_publisher id) (publisher_ports ids)) start old before)
-      (stays-but-whole (A_publisher id) (publisher_ports (id ∷ ids)) (first-part (A_publisher id) (publisher_ports ids)) old new next)
+      (stays-but-whole (publisher_ports ids) (publisher_ports (id ∷ ids))
+      (second-part (A_publisher id) (publisher_ports ids)) start old before)
+      (stays-but-whole (A_publisher id) (publisher_ports (id ∷ ids))
+      (first-part (A_publisher id) (publisher_ports ids)) old new next)
 
   -- ports that are new are new together
   pub no_port_new : (start : Kept T U F G) → IsNewIn start (subscriber_ports [])
   no_port_new = nothing-is-new
 
-  pub subscriber_new_too : (start : Kept T U F G) (id : ℕ) (ids : List ℕ) → IsNewIn start (A_subscriber id) → IsNewIn start (subscriber_ports ids) → IsNewIn start (subscriber_ports (id ∷ ids))
+  pub subscriber_new_too : (start : Kept T U F G) (id : ℕ) (ids : List ℕ) → IsNewIn start (A_subscriber id)
+      → IsNewIn start (subscriber_ports ids) → IsNewIn start (subscriber_ports (id ∷ ids))
   subscriber_new_too start id ids first others = both-new start (A_subscriber id) (subscriber_ports ids) first others
 
-  pub publisher_new_too : (start : Kept T U F G) (id : ℕ) (ids : List ℕ) → IsNewIn start (A_publisher id) → IsNewIn start (publisher_ports ids) → IsNewIn start (publisher_ports (id ∷ ids))
+  pub publisher_new_too : (start : Kept T U F G) (id : ℕ) (ids : List ℕ) → IsNewIn start (A_publisher id)
+      → IsNewIn start (publisher_ports ids) → IsNewIn start (publisher_ports (id ∷ ids))
   publisher_new_too start id ids first others = both-new start (A_publisher id) (publisher_ports ids) first others
 
   -- subscribers that differ from one that was closed are live still
-  pub others_stay_live : (subscriber : Subscriber) (others : List Subscriber) (old new : Kept T U F G) → StaysBut (A_subscriber subscriber.id) old new → IsNotAmong subscriber.id others → AreLiveKeys old others
+  pub others_stay_live : (subscriber : Subscriber) (others : List Subscriber) (old new : Kept T U F G)
+      → StaysBut (A_subscriber subscriber.id) old new → IsNotAmong subscriber.id others → AreLiveKeys old others
       → AreLiveKeys new others
   others_stay_live subscriber [] old new stays away live = tt
-  others_stay_live subscriber (other ∷ others) old new stays away live =
-      (stays.subscribers (subscriber_key other) live.0 (λ same. away.0 (sym same)), others_stay_live subscriber others old new stays away.1 live.1)
+  others_stay_live subscriber (other ∷ others) old new stays away live = (
+    stays.subscribers (subscriber_key other) live.0 (λ same. away.0 (sym same)),
+    others_stay_live subscriber others old new stays away.1 live.1,
+  )
 
 -- ---- what isn't among them
 
@@ -78,7 +93,8 @@ pub subscribers_no_loan : (number : ℕ) (ids : List ℕ) → IsOtherLoan (subsc
 subscribers_no_loan number [] = tt
 subscribers_no_loan number (first ∷ ids) = (tt, subscribers_no_loan number ids)
 
-pub subscribers_no_sample : (subscriber number : ℕ) (ids : List ℕ) → IsOtherSample (subscriber_ports ids) subscriber number
+pub subscribers_no_sample : (subscriber number : ℕ) (ids : List ℕ)
+    → IsOtherSample (subscriber_ports ids) subscriber number
 subscribers_no_sample subscriber number [] = tt
 subscribers_no_sample subscriber number (first ∷ ids) = (tt, subscribers_no_sample subscriber number ids)
 
@@ -95,7 +111,8 @@ pub publishers_no_loan : (number : ℕ) (ids : List ℕ) → IsOtherLoan (publis
 publishers_no_loan number [] = tt
 publishers_no_loan number (first ∷ ids) = (tt, publishers_no_loan number ids)
 
-pub publishers_no_sample : (subscriber number : ℕ) (ids : List ℕ) → IsOtherSample (publisher_ports ids) subscriber number
+pub publishers_no_sample : (subscriber number : ℕ) (ids : List ℕ)
+    → IsOtherSample (publisher_ports ids) subscriber number
 publishers_no_sample subscriber number [] = tt
 publishers_no_sample subscriber number (first ∷ ids) = (tt, publishers_no_sample subscriber number ids)
 
@@ -103,4 +120,21 @@ pub publishers_no_blocked : (publisher : ℕ) (ids : List ℕ) → IsOtherBlocke
 publishers_no_blocked publisher [] = tt
 publishers_no_blocked publisher (first ∷ ids) = (tt, publishers_no_blocked publisher ids)
 
-pub ruleset for_closing = (stays_but_both, subscriber_closed_too, publisher_closed_too, subscriber_new_too, publisher_new_too, others_stay_live, other_subscriber, other_publisher, subscribers_no_publisher, subscribers_no_loan, subscribers_no_sample, subscribers_no_blocked, publishers_no_subscriber, publishers_no_loan, publishers_no_sample, publishers_no_blocked)
+pub ruleset for_closing = (
+  stays_but_both,
+  subscriber_closed_too,
+  publisher_closed_too,
+  subscriber_new_too,
+  publisher_new_too,
+  others_stay_live,
+  other_subscriber,
+  other_publisher,
+  subscribers_no_publisher,
+  subscribers_no_loan,
+  subscribers_no_sample,
+  subscribers_no_blocked,
+  publishers_no_subscriber,
+  publishers_no_loan,
+  publishers_no_sample,
+  publishers_no_blocked,
+)

@@ -3,7 +3,9 @@ use Rattle.std.proofs.Common.{◌≡◌, sym, ◌∙◌, ⊎_elim, Result, Ok, E
 use Rattle.std.specs.Prelude.{IfErr}
 use Rattle.iox2_machine.specs.declared.errors.LoanError.{LoanError}
 use Rattle.iox2_machine.specs.declared.errors.SendError.{SendError}
-use Rattle.iox2_machine.specs.declared.errors.SendError.TheVariants.{ConnectionBrokenSinceSenderNoLongerExists, ConnectionError, UnableToDeliver, LoanError as Not_lent}
+use Rattle.iox2_machine.specs.declared.errors.SendError.TheVariants.{ConnectionBrokenSinceSenderNoLongerExists}
+use Rattle.iox2_machine.specs.declared.errors.SendError.TheVariants.{ConnectionError, UnableToDeliver}
+use Rattle.iox2_machine.specs.declared.errors.SendError.TheVariants.{LoanError as Not_lent}
 use Rattle.iox2_machine.specs.declared.key.Key.{Key}
 use Rattle.iox2_domain.specs.Kept.{Kept}
 use Rattle.iox2_pubsub.specs.SendCalls.{FailsSend}
@@ -22,6 +24,7 @@ module _ {T U F G : Type 0} (kept : Kept T U F G) (key : Key) (P : Type 0) where
       handled.0)
       fails
 
-  pub lent-not-refused : (result : Result SendOutcome SendError) → IfErr result (FailsSend kept key) → IfErr result (λ error. (reason : LoanError) → error ≡ Not_lent reason → P)
+  pub lent-not-refused : (result : Result SendOutcome SendError) → IfErr result (FailsSend kept key)
+      → IfErr result (λ error. (reason : LoanError) → error ≡ Not_lent reason → P)
   lent-not-refused (Ok outcome) fails = tt
   lent-not-refused (Err error) fails = other-error error fails

@@ -9,7 +9,8 @@ use Rattle.iox2_domain.specs.Invariant.{IsDomain}
 use Rattle.iox2_domain.proofs.lemmas.samples.SampleEntries.{borrowed-entry}
 
 -- its header names the publisher from which it is borrowed
-pub entry-origin : {T U : Type 0} (f : Fields T U) → IsDomain f → (q p n : ℕ) (header : Header) → is_borrowed n ((state_of (kept_of f)).mailboxes p q) ≡ true
+pub entry-origin : {T U : Type 0} (f : Fields T U) → IsDomain f → (q p n : ℕ) (header : Header)
+    → is_borrowed n ((state_of (kept_of f)).mailboxes p q) ≡ true
     → (entry : Entry T U) × (entries_of (kept_of f) n ≡ Some entry) × (entry.header ≡ header) → header.publisher_id ≡ p
 entry-origin f sound q p n header borrowed read =
     let kept = borrowed-entry f sound q p n borrowed in

@@ -32,7 +32,8 @@ module _ {T U F G : Type 0} (kept : Kept T U F G) where
   holds-parts holds = holds
 
   -- as the fields have it
-  pub holds-in : {boxes : DomainBoxes F G} (f : Fields T U) → keeping boxes f ≡ kept → HoldsSlices kept → is_single_valued f.config ≡ false
+  pub holds-in : {boxes : DomainBoxes F G} (f : Fields T U) → keeping boxes f ≡ kept → HoldsSlices kept
+      → is_single_valued f.config ≡ false
   holds-in f view holds = ap (λ (k : Kept T U F G). is_single_valued k.config) view ∙ holds-parts holds
 
   -- messages of a service for slices are slices
@@ -49,12 +50,15 @@ module _ {T U F G : Type 0} (kept : Kept T U F G) where
   carries-as config same =
       let variant = ap (λ (c : ServiceConfig). c.variant) same in
       record {
-        single_valued = λ single units. single-valued kept (variant ∙ single) (ap (λ (c : ServiceConfig). c.units_per_element) same ∙ units);
+        single_valued = λ single units.
+            single-valued kept (variant ∙ single) (ap (λ (c : ServiceConfig). c.units_per_element) same ∙ units);
         holds_slices = λ dynamic. dynamic-holds (variant ∙ dynamic);
-        sliced = λ dynamic lists. dynamic-sliced (variant ∙ dynamic) (ap (λ (c : ServiceConfig). c.lists_cells) same ∙ lists);
+        sliced = λ dynamic lists.
+            dynamic-sliced (variant ∙ dynamic) (ap (λ (c : ServiceConfig). c.lists_cells) same ∙ lists);
       }
 
-  pub cells-parts : (n : ℕ) (cells : List (Option T)) → HasUnwrittenCells kept n cells → HasCells (state_of kept) n cells
+  pub cells-parts : (n : ℕ) (cells : List (Option T)) → HasUnwrittenCells kept n cells
+      → HasCells (state_of kept) n cells
   unfolding HasUnwrittenCells
   cells-parts n cells has = has
 
@@ -71,14 +75,16 @@ module _ {T U F G : Type 0} (kept : Kept T U F G) where
   has-values n values has = has
 
   -- an unwritten loan has its cells, and a written one its values
-  pub cells-one : (n : ℕ) (cells cells' : List (Option T)) → HasUnwrittenCells kept n cells → HasUnwrittenCells kept n cells' → cells ≡ cells'
+  pub cells-one : (n : ℕ) (cells cells' : List (Option T)) → HasUnwrittenCells kept n cells
+      → HasUnwrittenCells kept n cells' → cells ≡ cells'
   unfolding HasUnwrittenCells
   cells-one n cells cells' a b =
       let both : Some a.0 ≡ Some b.0 = sym a.1 ∙ b.1 in
       let same : a.0 ≡ b.0 = cc in
       sym a.2 ∙ ap (λ (l : Loan T U). l.cells) same ∙ b.2
 
-  pub values-one : (n : ℕ) (values values' : List T) → HasValues kept n values → HasValues kept n values' → values ≡ values'
+  pub values-one : (n : ℕ) (values values' : List T) → HasValues kept n values → HasValues kept n values'
+      → values ≡ values'
   unfolding HasValues
   values-one n values values' a b =
       let both : Some a.0 ≡ Some b.0 = sym a.1 ∙ b.1 in
@@ -86,11 +92,13 @@ module _ {T U F G : Type 0} (kept : Kept T U F G) where
       same-values values values' (sym a.2 ∙ ap (λ (l : Loan T U). l.cells) same ∙ b.2)
 
   -- so does a sample
-  pub sample-values : (key : Key) (values : List T) → (entry : Entry T U) × (entries_of kept key.message ≡ Some entry) × (entry.values ≡ values) → SampleHasValues kept key values
+  pub sample-values : (key : Key) (values : List T) → (entry : Entry T U) × (entries_of kept key.message ≡ Some entry)
+      × (entry.values ≡ values) → SampleHasValues kept key values
   unfolding SampleHasValues
   sample-values key values has = has
 
-  pub sample-values-one : (key : Key) (values values' : List T) → SampleHasValues kept key values → SampleHasValues kept key values' → values ≡ values'
+  pub sample-values-one : (key : Key) (values values' : List T) → SampleHasValues kept key values
+      → SampleHasValues kept key values' → values ≡ values'
   unfolding SampleHasValues
   sample-values-one key values values' a b =
       let both : Some a.0 ≡ Some b.0 = sym a.1 ∙ b.1 in

@@ -1,5 +1,6 @@
 -- What of a domain stays from one state to the next.
-use Rattle.std.proofs.Common.{◌⊎◌, inl, inr, ◌≡◌, ◌≢◌, refl, ℕ, ◌<◌, arith, Bool, true, false, List, sym, ap, subst, ◌∙◌, Option, None, Some}
+use Rattle.std.proofs.Common.{◌⊎◌, inl, inr, ◌≡◌, ◌≢◌, refl, ℕ, ◌<◌, arith, Bool, true, false, List, sym, ap, subst}
+use Rattle.std.proofs.Common.{◌∙◌, Option, None, Some}
 use Rattle.std.proofs.lemmas.Bool.{cases_eq}
 use Rattle.std.specs.Option.{option_and_then}
 use Rattle.iox2_machine.specs.SingleValues.{is_single_valued}
@@ -27,7 +28,15 @@ use Rattle.iox2_pubsub.proofs.LiveParts.{loan-parts, origin-parts, sample-parts}
 use Rattle.iox2_pubsub.proofs.PlacedLoans.{placed-after}
 use Rattle.iox2_pubsub.proofs.SliceParts.{cells-parts, values-parts}
 use Rattle.iox2_pubsub.specs.Handlers.{may_wait}
-use Rattle.iox2_pubsub.specs.Live.{sample_key, IsPlaced, degradation_box, handler_box, subscriber_box, IsConsistent, IsSingleValued, IsPlacedPublisher, IsPlacedSubscriber, HasItsBuffer, IsPublisherKey, IsSubscriberKey, IsLoanKey, IsSampleKey, IsBlockedKey, IsPending, HasPassed, HasMark, IsFromOrigin, LoanHasHeader, LoanHasUserHeader, SampleHasHeader, SampleHasUserHeader, Item, No_item, A_publisher, A_subscriber, A_loan, A_sample, A_blocked_send, A_sent_loan, A_sent_copy, Both, IsOtherPublisher, IsOtherSubscriber, IsOtherLoan, IsOtherSample, IsUnblocked, IsUnwritten, IsWritten, PassesFull, NeverFails, NeverWaits, IsOtherBlocked, StaysBut, Stays, IsNewIn, blocked_key, unwritten_key, written_key}
+use Rattle.iox2_pubsub.specs.Live.{sample_key, IsPlaced, degradation_box, handler_box, subscriber_box, IsConsistent}
+use Rattle.iox2_pubsub.specs.Live.{IsSingleValued, IsPlacedPublisher, IsPlacedSubscriber, HasItsBuffer, IsPublisherKey}
+use Rattle.iox2_pubsub.specs.Live.{IsSubscriberKey, IsLoanKey, IsSampleKey, IsBlockedKey, IsPending, HasPassed, HasMark}
+use Rattle.iox2_pubsub.specs.Live.{IsFromOrigin, LoanHasHeader, LoanHasUserHeader, SampleHasHeader, SampleHasUserHeader}
+use Rattle.iox2_pubsub.specs.Live.{Item, No_item, A_publisher, A_subscriber, A_loan, A_sample, A_blocked_send}
+use Rattle.iox2_pubsub.specs.Live.{A_sent_loan, A_sent_copy, Both, IsOtherPublisher, IsOtherSubscriber, IsOtherLoan}
+use Rattle.iox2_pubsub.specs.Live.{IsOtherSample, IsUnblocked, IsUnwritten, IsWritten, PassesFull, NeverFails}
+use Rattle.iox2_pubsub.specs.Live.{NeverWaits, IsOtherBlocked, StaysBut, Stays, IsNewIn, blocked_key, unwritten_key}
+use Rattle.iox2_pubsub.specs.Live.{written_key}
 use Rattle.iox2_pubsub.specs.PendingSends.{GoesTo, PassesBy}
 use Rattle.iox2_pubsub.specs.Slices.{HoldsSlices, IsSliced, HasUnwrittenCells, HasValues, SampleHasValues}
 use Rattle.iox2_pubsub.specs.declared.blocked_send.BlockedSend.{BlockedSend as BlockedHandle}
@@ -42,7 +51,8 @@ module _ {T U : Type 0} where
   -- the settings stay, and the ports, but for the item
   pub record PortsRemainBut (spent : Item) (s s' : State T U) : Type 0 where
     pub config : s'.config ≡ s.config
-    pub publishers : (p : ℕ) (x : Publisher) → s.publishers p ≡ Some x → IsOtherPublisher spent p → (x' : Publisher) × (s'.publishers p ≡ Some x')
+    pub publishers : (p : ℕ) (x : Publisher) → s.publishers p ≡ Some x → IsOtherPublisher spent p
+        → (x' : Publisher) × (s'.publishers p ≡ Some x')
     pub subscribers : (q : ℕ) (y : Subscriber) → s.subscribers q ≡ Some y → y.is_open ≡ true → IsOtherSubscriber spent q
         → (y' : Subscriber) × (s'.subscribers q ≡ Some y') × (y'.is_open ≡ true)
 
@@ -60,17 +70,21 @@ module _ {T U : Type 0} where
 
   -- what is borrowed stays so, but for the item
   abbrev pub SamplesStayBut : Item → (s s' : State T U) → Type 0
-  SamplesStayBut spent s s' = (p q n : ℕ) → is_borrowed n (s.mailboxes p q) ≡ true → IsOtherSample spent q n → is_borrowed n (s'.mailboxes p q) ≡ true
+  SamplesStayBut spent s s' = (p q n : ℕ) → is_borrowed n (s.mailboxes p q) ≡ true → IsOtherSample spent q n
+      → is_borrowed n (s'.mailboxes p q) ≡ true
 
 module _ {T U F G : Type 0} where
   -- each port keeps its boxes, but for the item, and each message its slot
   pub record BoxesStayBut (spent : Item) (old new : Kept T U F G) : Type 0 where
-    pub at : (key : Key) → IsPublisherKey old key → IsOtherPublisher spent key.port → boxes_of key.port (new.boxes).publishers ≡ boxes_of key.port (old.boxes).publishers
-    pub subscribers : (key : Key) → IsSubscriberKey old key → IsOtherSubscriber spent key.port → boxes_of key.port (new.boxes).subscribers ≡ boxes_of key.port (old.boxes).subscribers
+    pub at : (key : Key) → IsPublisherKey old key → IsOtherPublisher spent key.port
+        → boxes_of key.port (new.boxes).publishers ≡ boxes_of key.port (old.boxes).publishers
+    pub subscribers : (key : Key) → IsSubscriberKey old key → IsOtherSubscriber spent key.port
+        → boxes_of key.port (new.boxes).subscribers ≡ boxes_of key.port (old.boxes).subscribers
     pub placed : (n key slot : ℕ) → IsPlaced old n key slot → IsPlaced new n key slot
 
   -- where the call changes no box
-  pub same-boxes : {boxes : DomainBoxes F G} {spent : Item} (f g : Fields T U) (kept : Kept T U F G) → keeping boxes f ≡ kept → IsDomain f → KeepsPlaces f g → BoxesStayBut spent kept (keeping boxes g)
+  pub same-boxes : {boxes : DomainBoxes F G} {spent : Item} (f g : Fields T U) (kept : Kept T U F G)
+      → keeping boxes f ≡ kept → IsDomain f → KeepsPlaces f g → BoxesStayBut spent kept (keeping boxes g)
   same-boxes {boxes} f g kept view sound places = record {
     at = λ key live other. ap (λ (k : Kept T U F G). boxes_of key.port (k.boxes).publishers) view;
     subscribers = λ key live other. ap (λ (k : Kept T U F G). boxes_of key.port (k.boxes).subscribers) view;
@@ -78,8 +92,10 @@ module _ {T U F G : Type 0} where
   }
 
   -- where it changes no box but those of the publisher that is the item
-  pub other-boxes : {boxes : DomainBoxes F G} {publishers : List (PortBox F G)} {spent : Item} (f g : Fields T U) (kept : Kept T U F G) → keeping boxes f ≡ kept → IsDomain f → KeepsPlaces f g
-      → ((p : ℕ) → IsOtherPublisher spent p → boxes_of p publishers ≡ boxes_of p boxes.publishers) → BoxesStayBut spent kept (keeping (record boxes { publishers = publishers }) g)
+  pub other-boxes : {boxes : DomainBoxes F G} {publishers : List (PortBox F G)} {spent : Item} (f g : Fields T U)
+      (kept : Kept T U F G) → keeping boxes f ≡ kept → IsDomain f → KeepsPlaces f g
+      → ((p : ℕ) → IsOtherPublisher spent p → boxes_of p publishers ≡ boxes_of p boxes.publishers)
+      → BoxesStayBut spent kept (keeping (record boxes { publishers = publishers }) g)
   other-boxes {boxes} {publishers} f g kept view sound places same = record {
     at = λ key live other. same key.port other ∙ ap (λ (k : Kept T U F G). boxes_of key.port (k.boxes).publishers) view;
     subscribers = λ key live other. ap (λ (k : Kept T U F G). boxes_of key.port (k.boxes).subscribers) view;
@@ -87,17 +103,22 @@ module _ {T U F G : Type 0} where
   }
 
   -- where it changes no box but those of the subscriber that is the item
-  pub other-subscriber-boxes : {boxes : DomainBoxes F G} {subscribers : List (PortBox F G)} {spent : Item} (f g : Fields T U) (kept : Kept T U F G) → keeping boxes f ≡ kept → IsDomain f → KeepsPlaces f g
-      → ((q : ℕ) → IsOtherSubscriber spent q → boxes_of q subscribers ≡ boxes_of q boxes.subscribers) → BoxesStayBut spent kept (keeping (record boxes { subscribers = subscribers }) g)
+  pub other-subscriber-boxes : {boxes : DomainBoxes F G} {subscribers : List (PortBox F G)} {spent : Item}
+      (f g : Fields T U) (kept : Kept T U F G) → keeping boxes f ≡ kept → IsDomain f → KeepsPlaces f g
+      → ((q : ℕ) → IsOtherSubscriber spent q → boxes_of q subscribers ≡ boxes_of q boxes.subscribers)
+      → BoxesStayBut spent kept (keeping (record boxes { subscribers = subscribers }) g)
   other-subscriber-boxes {boxes} {subscribers} f g kept view sound places same = record {
     at = λ key live other. ap (λ (k : Kept T U F G). boxes_of key.port (k.boxes).publishers) view;
-    subscribers = λ key live other. same key.port other ∙ ap (λ (k : Kept T U F G). boxes_of key.port (k.boxes).subscribers) view;
+    subscribers =
+        λ key live other. same key.port other ∙ ap (λ (k : Kept T U F G). boxes_of key.port (k.boxes).subscribers) view;
     placed = placed-after (record boxes { subscribers = subscribers }) f g kept view sound places;
   }
 
   -- where it changes the boxes of no publisher that is there
-  pub live-boxes : {boxes : DomainBoxes F G} {publishers : List (PortBox F G)} {spent : Item} (f g : Fields T U) (kept : Kept T U F G) → keeping boxes f ≡ kept → IsDomain f → KeepsPlaces f g
-      → ((key : Key) → IsPublisherKey kept key → IsOtherPublisher spent key.port → boxes_of key.port publishers ≡ boxes_of key.port boxes.publishers)
+  pub live-boxes : {boxes : DomainBoxes F G} {publishers : List (PortBox F G)} {spent : Item} (f g : Fields T U)
+      (kept : Kept T U F G) → keeping boxes f ≡ kept → IsDomain f → KeepsPlaces f g
+      → ((key : Key) → IsPublisherKey kept key → IsOtherPublisher spent key.port
+      → boxes_of key.port publishers ≡ boxes_of key.port boxes.publishers)
       → BoxesStayBut spent kept (keeping (record boxes { publishers = publishers }) g)
   live-boxes {boxes} {publishers} f g kept view sound places same = record {
     at = λ key live other. same key live other ∙ ap (λ (k : Kept T U F G). boxes_of key.port (k.boxes).publishers) view;
@@ -106,39 +127,53 @@ module _ {T U F G : Type 0} where
   }
 
   -- where it changes the boxes of no subscriber that is there
-  pub live-subscriber-boxes : {boxes : DomainBoxes F G} {subscribers : List (PortBox F G)} {spent : Item} (f g : Fields T U) (kept : Kept T U F G) → keeping boxes f ≡ kept → IsDomain f → KeepsPlaces f g
-      → ((key : Key) → IsSubscriberKey kept key → IsOtherSubscriber spent key.port → boxes_of key.port subscribers ≡ boxes_of key.port boxes.subscribers)
+  pub live-subscriber-boxes : {boxes : DomainBoxes F G} {subscribers : List (PortBox F G)} {spent : Item}
+      (f g : Fields T U) (kept : Kept T U F G) → keeping boxes f ≡ kept → IsDomain f → KeepsPlaces f g
+      → ((key : Key) → IsSubscriberKey kept key → IsOtherSubscriber spent key.port
+      → boxes_of key.port subscribers ≡ boxes_of key.port boxes.subscribers)
       → BoxesStayBut spent kept (keeping (record boxes { subscribers = subscribers }) g)
   live-subscriber-boxes {boxes} {subscribers} f g kept view sound places same = record {
     at = λ key live other. ap (λ (k : Kept T U F G). boxes_of key.port (k.boxes).publishers) view;
-    subscribers = λ key live other. same key live other ∙ ap (λ (k : Kept T U F G). boxes_of key.port (k.boxes).subscribers) view;
+    subscribers =
+        λ key live other. same key live other ∙ ap (λ (k : Kept T U F G). boxes_of key.port (k.boxes).subscribers) view;
     placed = placed-after (record boxes { subscribers = subscribers }) f g kept view sound places;
   }
 
   -- a port with the same boxes has the same one of each kind
-  pub handlers-stay : (spent : Item) (old new : Kept T U F G) → BoxesStayBut spent old new → (key : Key) → IsPublisherKey old key → IsOtherPublisher spent key.port → handler_box new key.port ≡ handler_box old key.port
+  pub handlers-stay : (spent : Item) (old new : Kept T U F G) → BoxesStayBut spent old new → (key : Key)
+      → IsPublisherKey old key → IsOtherPublisher spent key.port → handler_box new key.port ≡ handler_box old key.port
   unfolding handler_box
-  handlers-stay spent old new stay key live other = ap (option_and_then (λ (b : PortBoxes F G). b.backpressure)) (stay.at key live other)
+  handlers-stay spent old new stay key live other =
+      ap (option_and_then (λ (b : PortBoxes F G). b.backpressure)) (stay.at key live other)
 
-  pub degradations-stay : (spent : Item) (old new : Kept T U F G) → BoxesStayBut spent old new → (key : Key) → IsPublisherKey old key → IsOtherPublisher spent key.port → degradation_box new key.port ≡ degradation_box old key.port
+  pub degradations-stay : (spent : Item) (old new : Kept T U F G) → BoxesStayBut spent old new → (key : Key)
+      → IsPublisherKey old key → IsOtherPublisher spent key.port
+      → degradation_box new key.port ≡ degradation_box old key.port
   unfolding degradation_box
-  degradations-stay spent old new stay key live other = ap (option_and_then (λ (b : PortBoxes F G). b.degradation)) (stay.at key live other)
+  degradations-stay spent old new stay key live other =
+      ap (option_and_then (λ (b : PortBoxes F G). b.degradation)) (stay.at key live other)
 
-  pub subscribers-stay : (spent : Item) (old new : Kept T U F G) → BoxesStayBut spent old new → (key : Key) → IsSubscriberKey old key → IsOtherSubscriber spent key.port → subscriber_box new key.port ≡ subscriber_box old key.port
+  pub subscribers-stay : (spent : Item) (old new : Kept T U F G) → BoxesStayBut spent old new → (key : Key)
+      → IsSubscriberKey old key → IsOtherSubscriber spent key.port
+      → subscriber_box new key.port ≡ subscriber_box old key.port
   unfolding subscriber_box
-  subscribers-stay spent old new stay key live other = ap (option_and_then (λ (b : PortBoxes F G). b.degradation)) (stay.subscribers key live other)
+  subscribers-stay spent old new stay key live other =
+      ap (option_and_then (λ (b : PortBoxes F G). b.degradation)) (stay.subscribers key live other)
 
   -- a publisher has the boxes that are kept under its id
-  pub box-is : (boxes : DomainBoxes F G) (f : Fields T U) (p : ℕ) (box : Option F) → box_of p boxes.publishers ≡ box → handler_box (keeping boxes f) p ≡ box
+  pub box-is : (boxes : DomainBoxes F G) (f : Fields T U) (p : ℕ) (box : Option F) → box_of p boxes.publishers ≡ box
+      → handler_box (keeping boxes f) p ≡ box
   unfolding handler_box
   box-is boxes f p box is = is
 
-  pub degradation-box-is : (boxes : DomainBoxes F G) (f : Fields T U) (p : ℕ) (box : Option G) → degradation_box_of p boxes.publishers ≡ box → degradation_box (keeping boxes f) p ≡ box
+  pub degradation-box-is : (boxes : DomainBoxes F G) (f : Fields T U) (p : ℕ) (box : Option G)
+      → degradation_box_of p boxes.publishers ≡ box → degradation_box (keeping boxes f) p ≡ box
   unfolding degradation_box
   degradation-box-is boxes f p box is = is
 
   -- and a subscriber those under its
-  pub subscriber-box-is : (boxes : DomainBoxes F G) (f : Fields T U) (q : ℕ) (box : Option G) → degradation_box_of q boxes.subscribers ≡ box → subscriber_box (keeping boxes f) q ≡ box
+  pub subscriber-box-is : (boxes : DomainBoxes F G) (f : Fields T U) (q : ℕ) (box : Option G)
+      → degradation_box_of q boxes.subscribers ≡ box → subscriber_box (keeping boxes f) q ≡ box
   unfolding subscriber_box
   subscriber-box-is boxes f q box is = is
 
@@ -164,18 +199,20 @@ other-or-spared (A_sent_copy q true) p = other-or-same p q
 other-or-spared (A_sent_copy q false) p = inl tt
 other-or-spared (Both first second) p = elim (other-or-spared first p) [
   | inr spared ↦ inr (λ both. spared both.0)
-  | inl other ↦ elim (other-or-spared second p) [ inr spared ↦ inr (λ both. spared both.1) | inl another ↦ inl (other, another) ]
+  | inl other ↦
+      elim (other-or-spared second p) [ inr spared ↦ inr (λ both. spared both.1) | inl another ↦ inl (other, another) ]
 ]
 
 module _ {T U : Type 0} where
-  -- Of a publisher whose blocked send is the item: where no handler fails a send of it, none has failed that one then; and it isn't
-  -- one that never waits.
+  -- Of a publisher whose blocked send is the item: where no handler fails a send of it, none has failed that one then;
+  -- and it isn't one that never waits.
   pub record SparedPublishers {F G : Type 0} (spent : Item) (old : Kept T U F G) (s s' : State T U) : Type 0 where
     pub unfailed : (p : ℕ) → IsSpared spent p → p < s.next_port → IsMild s p → HasNotFailed s p → HasNotFailed s' p
     pub waits : (key : Key) → IsSpared spent key.port → NeverWaits old key → ⊥
 
   -- where the item is no blocked send
-  pub none-spared : {F G : Type 0} (spent : Item) (old : Kept T U F G) (s s' : State T U) → ((p : ℕ) → IsOtherBlocked spent p) → SparedPublishers spent old s s'
+  pub none-spared : {F G : Type 0} (spent : Item) (old : Kept T U F G) (s s' : State T U)
+      → ((p : ℕ) → IsOtherBlocked spent p) → SparedPublishers spent old s s'
   none-spared spent old s s' other = record {
     unfailed = λ p spared low mild none. absurd (spared (other p));
     waits = λ key spared never. absurd (spared (other key.port));
@@ -184,59 +221,77 @@ module _ {T U : Type 0} where
 module _ {T U F G : Type 0} (kept : Kept T U F G) (it : BlockedHandle) (whose : SubscriberHandle) where
   -- the words of blocked sends, part by part
   pub pending-parts : (values : List T) → IsPending kept it whose values
-      → IsBlockedKey kept (blocked_key it) × GoesTo (state_of kept) it.loan.publisher it.loan.number whose.id × SampleHasValues kept (blocked_key it) values
+      → IsBlockedKey kept (blocked_key it) × GoesTo (state_of kept) it.loan.publisher it.loan.number whose.id
+      × SampleHasValues kept (blocked_key it) values
   unfolding IsPending
   pending-parts values has = has
 
-  pub pending-from : (values : List T) → IsBlockedKey kept (blocked_key it) × GoesTo (state_of kept) it.loan.publisher it.loan.number whose.id × SampleHasValues kept (blocked_key it) values
+  pub pending-from : (values : List T) → IsBlockedKey kept (blocked_key it)
+      × GoesTo (state_of kept) it.loan.publisher it.loan.number whose.id × SampleHasValues kept (blocked_key it) values
       → IsPending kept it whose values
   unfolding IsPending
   pending-from values has = has
 
-  pub passed-parts : HasPassed kept it whose → IsBlockedKey kept (blocked_key it) × PassesBy (state_of kept) it.loan.publisher it.loan.number whose.id
+  pub passed-parts : HasPassed kept it whose
+      → IsBlockedKey kept (blocked_key it) × PassesBy (state_of kept) it.loan.publisher it.loan.number whose.id
   unfolding HasPassed
   passed-parts has = has
 
-  pub passed-from : IsBlockedKey kept (blocked_key it) × PassesBy (state_of kept) it.loan.publisher it.loan.number whose.id → HasPassed kept it whose
+  pub passed-from : IsBlockedKey kept (blocked_key it)
+      × PassesBy (state_of kept) it.loan.publisher it.loan.number whose.id → HasPassed kept it whose
   unfolding HasPassed
   passed-from has = has
 
 -- a domain that shows some state is consistent
-pub consistent-shown : {T U F G : Type 0} (kept : Kept T U F G) (m : Messages T U) (s : State T U) → Shows kept m s → IsConsistent kept
+pub consistent-shown : {T U F G : Type 0} (kept : Kept T U F G) (m : Messages T U) (s : State T U) → Shows kept m s
+    → IsConsistent kept
 unfolding IsConsistent
 consistent-shown kept m s shown = (m, subst (Shows kept m) shown.state shown)
 
-module _ {T U F G : Type 0} (spent : Item) (old new : Kept T U F G) (remain : PortsRemainBut spent (state_of old) (state_of new)) (loans : LoansStayBut spent (state_of old) (state_of new))
-    (samples : SamplesStayBut spent (state_of old) (state_of new)) (waits : Waits (IsSpared spent) (state_of old) (state_of new))
+module _ {T U F G : Type 0} (spent : Item) (old new : Kept T U F G)
+    (remain : PortsRemainBut spent (state_of old) (state_of new))
+    (loans : LoansStayBut spent (state_of old) (state_of new))
+    (samples : SamplesStayBut spent (state_of old) (state_of new))
+    (waits : Waits (IsSpared spent) (state_of old) (state_of new))
     (goes-on : SparedPublishers spent old (state_of old) (state_of new))
     (known : (p : ℕ) (x : Publisher) → (state_of old).publishers p ≡ Some x → p < (state_of old).next_port)
-    (entries : (n p : ℕ) (entry : Entry T U) → entries_of old n ≡ Some entry → IsHeldMessage (state_of new) p n → entries_of new n ≡ Some entry)
+    (entries : (n p : ℕ) (entry : Entry T U) → entries_of old n ≡ Some entry → IsHeldMessage (state_of new) p n
+    → entries_of new n ≡ Some entry)
     (consistent-now : IsConsistent new) (boxes : BoxesStayBut spent old new) where
   service : (id : ℕ) → id ≡ (old.config).service_id → id ≡ (new.config).service_id
   service id ours = ours ∙ sym (ap (λ (c : ServiceConfig). c.service_id) remain.config)
 
   single : IsSingleValued old → IsSingleValued new
   unfolding IsSingleValued
-  single was = (ap (λ (c : ServiceConfig). c.variant) remain.config ∙ was.0, ap (λ (c : ServiceConfig). c.units_per_element) remain.config ∙ was.1)
+  single was = (
+    ap (λ (c : ServiceConfig). c.variant) remain.config ∙ was.0,
+    ap (λ (c : ServiceConfig). c.units_per_element) remain.config ∙ was.1,
+  )
 
   holds : HoldsSlices old → HoldsSlices new
   unfolding HoldsSlices
   holds was = ap is_single_valued remain.config ∙ was
 
   slices : IsSliced old → IsSliced new
-  slices was = record { holds = holds was.holds; lists_cells = ap (λ (c : ServiceConfig). c.lists_cells) remain.config ∙ was.lists_cells }
+  slices was = record {
+    holds = holds was.holds;
+    lists_cells = ap (λ (c : ServiceConfig). c.lists_cells) remain.config ∙ was.lists_cells;
+  }
 
   publisher : (key : Key) → IsPublisherKey old key → IsOtherPublisher spent key.port → IsPublisherKey new key
   unfolding IsPublisherKey
-  publisher key live other = (live.0, service key.service_id live.1, remain.publishers key.port (live.2).0 (live.2).1 other)
+  publisher key live other =
+      (live.0, service key.service_id live.1, remain.publishers key.port (live.2).0 (live.2).1 other)
 
   subscriber : (key : Key) → IsSubscriberKey old key → IsOtherSubscriber spent key.port → IsSubscriberKey new key
   unfolding IsSubscriberKey
-  subscriber key live other = (live.0, service key.service_id live.1, remain.subscribers key.port (live.2).0 (live.2).1 (live.2).2 other)
+  subscriber key live other =
+      (live.0, service key.service_id live.1, remain.subscribers key.port (live.2).0 (live.2).1 (live.2).2 other)
 
   loan : (key : Key) → IsLoanKey old key → IsOtherLoan spent key.message → IsLoanKey new key
   unfolding IsLoanKey
-  loan key live other = (service key.service_id live.0, ((live.1).0, loans key.message (live.1).0 (live.1).1 other, (live.1).2))
+  loan key live other =
+      (service key.service_id live.0, ((live.1).0, loans key.message (live.1).0 (live.1).1 other, (live.1).2))
 
   mark : (n : ℕ) (is_written : Bool) → HasMark old n is_written → IsOtherLoan spent n → HasMark new n is_written
   unfolding HasMark
@@ -244,9 +299,11 @@ module _ {T U F G : Type 0} (spent : Item) (old new : Kept T U F G) (remain : Po
 
   sample : (key : Key) → IsSampleKey old key → IsOtherSample spent key.port key.message → IsSampleKey new key
   unfolding IsSampleKey
-  sample key live other = (service key.service_id live.0, ((live.1).0, samples (live.1).0 key.port key.message (live.1).1 other))
+  sample key live other =
+      (service key.service_id live.0, ((live.1).0, samples (live.1).0 key.port key.message (live.1).1 other))
 
-  origin : (it : Sample) → IsFromOrigin old it → IsOtherSample spent it.sample.subscriber it.sample.number → IsFromOrigin new it
+  origin : (it : Sample) → IsFromOrigin old it → IsOtherSample spent it.sample.subscriber it.sample.number
+      → IsFromOrigin new it
   unfolding IsFromOrigin
   origin it from other = samples it.origin it.sample.subscriber it.sample.number from other
 
@@ -254,35 +311,43 @@ module _ {T U F G : Type 0} (spent : Item) (old new : Kept T U F G) (remain : Po
   unfolding HasValues
   loan-values n values has other = (has.0, loans n has.0 has.1 other, has.2)
 
-  loan-cells : (n : ℕ) (cells : List (Option T)) → HasUnwrittenCells old n cells → IsOtherLoan spent n → HasUnwrittenCells new n cells
+  loan-cells : (n : ℕ) (cells : List (Option T)) → HasUnwrittenCells old n cells → IsOtherLoan spent n
+      → HasUnwrittenCells new n cells
   unfolding HasUnwrittenCells
   loan-cells n cells has other = (has.0, loans n has.0 has.1 other, has.2)
 
-  loan-header : (key : Key) (header : Header) → LoanHasHeader old key header → IsOtherLoan spent key.message → LoanHasHeader new key header
+  loan-header : (key : Key) (header : Header) → LoanHasHeader old key header → IsOtherLoan spent key.message
+      → LoanHasHeader new key header
   unfolding LoanHasHeader
   loan-header key header has other = (has.0, loans key.message has.0 has.1 other, has.2)
 
-  loan-user-header : (key : Key) (header : U) → LoanHasUserHeader old key header → IsOtherLoan spent key.message → LoanHasUserHeader new key header
+  loan-user-header : (key : Key) (header : U) → LoanHasUserHeader old key header → IsOtherLoan spent key.message
+      → LoanHasUserHeader new key header
   unfolding LoanHasUserHeader
   loan-user-header key header has other = (has.0, loans key.message has.0 has.1 other, has.2)
 
   -- the entry of a sample
-  sample-entry : (key : Key) → IsSampleKey old key → IsOtherSample spent key.port key.message → (entry : Entry T U) → entries_of old key.message ≡ Some entry
+  sample-entry : (key : Key) → IsSampleKey old key → IsOtherSample spent key.port key.message → (entry : Entry T U)
+      → entries_of old key.message ≡ Some entry
       → entries_of new key.message ≡ Some entry
   unfolding IsSampleKey
   sample-entry key live other entry at = let has = sample key live other in
-      entries key.message (has.1).0 entry at (In_mailbox key.port (contains_borrowed ((state_of new).mailboxes (has.1).0 key.port) key.message (has.1).1))
+      entries key.message (has.1).0 entry at
+      (In_mailbox key.port (contains_borrowed ((state_of new).mailboxes (has.1).0 key.port) key.message (has.1).1))
 
-  sample-header : (key : Key) (header : Header) → IsSampleKey old key → SampleHasHeader old key header → IsOtherSample spent key.port key.message → SampleHasHeader new key header
+  sample-header : (key : Key) (header : Header) → IsSampleKey old key → SampleHasHeader old key header
+      → IsOtherSample spent key.port key.message → SampleHasHeader new key header
   unfolding SampleHasHeader
   sample-header key header live has other = (has.0, sample-entry key live other has.0 has.1, has.2)
 
-  sample-user-header : (key : Key) (header : U) → IsSampleKey old key → SampleHasUserHeader old key header → IsOtherSample spent key.port key.message
+  sample-user-header : (key : Key) (header : U) → IsSampleKey old key → SampleHasUserHeader old key header
+      → IsOtherSample spent key.port key.message
       → SampleHasUserHeader new key header
   unfolding SampleHasUserHeader
   sample-user-header key header live has other = (has.0, sample-entry key live other has.0 has.1, has.2)
 
-  sample-values : (key : Key) (values : List T) → IsSampleKey old key → SampleHasValues old key values → IsOtherSample spent key.port key.message → SampleHasValues new key values
+  sample-values : (key : Key) (values : List T) → IsSampleKey old key → SampleHasValues old key values
+      → IsOtherSample spent key.port key.message → SampleHasValues new key values
   unfolding SampleHasValues
   sample-values key values live has other = (has.0, sample-entry key live other has.0 has.1, has.2)
 
@@ -293,8 +358,10 @@ module _ {T U F G : Type 0} (spent : Item) (old new : Kept T U F G) (remain : Po
 
   -- what was so of a port, if it was there, is so of what it became
   still-so : {R : Type 0} (before after : ℕ → Option R) (Was : R → R → Type 0) (id : ℕ) (P : R → Type 0)
-      → ((x' : R) → id < (state_of old).next_port → after id ≡ Some x' → (x : R) × (before id ≡ Some x) × Was x x') → ((x x' : R) → Was x x' → P x → P x')
-      → (id < (state_of old).next_port) × ((x : R) → before id ≡ Some x → P x) → (id < (state_of new).next_port) × ((x' : R) → after id ≡ Some x' → P x')
+      → ((x' : R) → id < (state_of old).next_port → after id ≡ Some x' → (x : R) × (before id ≡ Some x) × Was x x')
+      → ((x x' : R) → Was x x' → P x → P x')
+      → (id < (state_of old).next_port) × ((x : R) → before id ≡ Some x → P x)
+      → (id < (state_of new).next_port) × ((x' : R) → after id ≡ Some x' → P x')
   still-so before after Was id P came still was = (
     more id was.0,
     λ x' at.
@@ -304,20 +371,24 @@ module _ {T U F G : Type 0} (spent : Item) (old new : Kept T U F G) (remain : Po
 
   placed : (it : PublisherHandle) → IsPlacedPublisher old it → IsPlacedPublisher new it
   unfolding IsPlacedPublisher
-  placed it = still-so (state_of old).publishers (state_of new).publishers (IsAsItWas (IsSpared spent) it.id) it.id (λ x. x.place ≡ it.place) (waits.publishers it.id) (λ x x' kept stood. kept.place ∙ stood)
+  placed it = still-so (state_of old).publishers (state_of new).publishers (IsAsItWas (IsSpared spent) it.id) it.id
+      (λ x. x.place ≡ it.place) (waits.publishers it.id) (λ x x' kept stood. kept.place ∙ stood)
 
   placed-subscriber : (it : SubscriberHandle) → IsPlacedSubscriber old it → IsPlacedSubscriber new it
   unfolding IsPlacedSubscriber
-  placed-subscriber it = still-so (state_of old).subscribers (state_of new).subscribers StandsAsItDid it.id (λ y. y.place ≡ it.place) (waits.subscribers it.id) (λ y y' kept stood. kept.place ∙ stood)
+  placed-subscriber it = still-so (state_of old).subscribers (state_of new).subscribers StandsAsItDid it.id
+      (λ y. y.place ≡ it.place) (waits.subscribers it.id) (λ y y' kept stood. kept.place ∙ stood)
 
   buffered : (it : SubscriberHandle) → HasItsBuffer old it → HasItsBuffer new it
   unfolding HasItsBuffer
-  buffered it = still-so (state_of old).subscribers (state_of new).subscribers StandsAsItDid it.id (λ y. y.buffer ≡ it.buffer_size) (waits.subscribers it.id) (λ y y' kept had. kept.buffer ∙ had)
+  buffered it = still-so (state_of old).subscribers (state_of new).subscribers StandsAsItDid it.id
+      (λ y. y.buffer ≡ it.buffer_size) (waits.subscribers it.id) (λ y y' kept had. kept.buffer ∙ had)
 
   free : (key : Key) → IsUnblocked old key → IsOtherBlocked spent key.port → IsUnblocked new key
   unfolding IsUnblocked
   free key was other =
-      still-so (state_of old).publishers (state_of new).publishers (IsAsItWas (IsSpared spent) key.port) key.port (λ x. x.blocked ≡ None) (waits.publishers key.port)
+      still-so (state_of old).publishers (state_of new).publishers (IsAsItWas (IsSpared spent) key.port) key.port
+      (λ x. x.blocked ≡ None) (waits.publishers key.port)
       (λ x x' kept none. kept.blocked (λ spared. spared other) ∙ none) was
 
   -- the settings don't change
@@ -358,7 +429,8 @@ module _ {T U F G : Type 0} (spent : Item) (old new : Kept T U F G) (remain : Po
   )
 
   -- a publisher waits as it did
-  waiting-still : (p : ℕ) (x : Publisher) → (state_of old).publishers p ≡ Some x → IsOtherPublisher spent p → IsOtherBlocked spent p
+  waiting-still : (p : ℕ) (x : Publisher) → (state_of old).publishers p ≡ Some x → IsOtherPublisher spent p
+      → IsOtherBlocked spent p
       → (x' : Publisher) × ((state_of new).publishers p ≡ Some x') × (x'.blocked ≡ x.blocked)
   waiting-still p x at other apart =
       let there = remain.publishers p x at other in
@@ -367,28 +439,55 @@ module _ {T U F G : Type 0} (spent : Item) (old new : Kept T U F G) (remain : Po
       let same : before.0 ≡ x = cc in
       (there.0, there.1, before.2.blocked (λ spared. spared apart) ∙ ap (λ (z : Publisher). z.blocked) same)
 
-  blocked : (key : Key) → IsBlockedKey old key → IsOtherPublisher spent key.port → IsOtherBlocked spent key.port → IsBlockedKey new key
+  blocked : (key : Key) → IsBlockedKey old key → IsOtherPublisher spent key.port → IsOtherBlocked spent key.port
+      → IsBlockedKey new key
   unfolding IsBlockedKey
   blocked key live other apart =
       let has = live.1 in
       let now = waiting-still key.port has.0 has.2 other apart in
       (service key.service_id live.0, (now.0, has.1, now.1, now.2 ∙ has.3, has.4))
 
-  goes-to : (p n q : ℕ) → GoesTo (state_of old) p n q → IsOtherPublisher spent p → IsOtherBlocked spent p → GoesTo (state_of new) p n q
+  goes-to : (p n q : ℕ) → GoesTo (state_of old) p n q → IsOtherPublisher spent p → IsOtherBlocked spent p
+      → GoesTo (state_of new) p n q
   goes-to p n q has other apart =
       let now = waiting-still p has.publisher has.stands other apart in
-      record { publisher = now.0; blocked = has.blocked; stands = now.1; waits = now.2 ∙ has.waits; message = has.message; channel = has.channel; some = has.some; ahead = has.ahead }
+      record {
+        publisher = now.0;
+        blocked = has.blocked;
+        stands = now.1;
+        waits = now.2 ∙ has.waits;
+        message = has.message;
+        channel = has.channel;
+        some = has.some;
+        ahead = has.ahead;
+      }
 
-  passes-by : (p n q : ℕ) → PassesBy (state_of old) p n q → IsOtherPublisher spent p → IsOtherBlocked spent p → PassesBy (state_of new) p n q
+  passes-by : (p n q : ℕ) → PassesBy (state_of old) p n q → IsOtherPublisher spent p → IsOtherBlocked spent p
+      → PassesBy (state_of new) p n q
   passes-by p n q has other apart =
       let now = waiting-still p has.publisher has.stands other apart in
-      record { publisher = now.0; blocked = has.blocked; stands = now.1; waits = now.2 ∙ has.waits; message = has.message; channel = has.channel; some = has.some; past = has.past }
+      record {
+        publisher = now.0;
+        blocked = has.blocked;
+        stands = now.1;
+        waits = now.2 ∙ has.waits;
+        message = has.message;
+        channel = has.channel;
+        some = has.some;
+        past = has.past;
+      }
 
   -- the message of a blocked send reads as it did
-  blocked-values : (it : BlockedHandle) (q : ℕ) (values : List T) → GoesTo (state_of new) it.loan.publisher it.loan.number q → SampleHasValues old (blocked_key it) values → SampleHasValues new (blocked_key it) values
+  blocked-values : (it : BlockedHandle) (q : ℕ) (values : List T)
+      → GoesTo (state_of new) it.loan.publisher it.loan.number q → SampleHasValues old (blocked_key it) values
+      → SampleHasValues new (blocked_key it) values
   unfolding SampleHasValues
-  blocked-values it q values goes has =
-      (has.0, entries it.loan.number it.loan.publisher has.0 has.1 (In_blocked_send goes.publisher goes.blocked goes.stands goes.waits goes.message), has.2)
+  blocked-values it q values goes has = (
+    has.0,
+    entries it.loan.number it.loan.publisher has.0 has.1
+        (In_blocked_send goes.publisher goes.blocked goes.stands goes.waits goes.message),
+    has.2,
+  )
 
   stays-but : StaysBut spent old new
   stays-but = record {
@@ -406,8 +505,16 @@ module _ {T U F G : Type 0} (spent : Item) (old new : Kept T U F G) (remain : Po
     placed_subscribers = placed-subscriber;
     buffers = buffered;
     loans = loan;
-    unwritten_loans = λ it live other. record { live = loan (unwritten_key it) live.live other; unwritten = mark it.loan.number _ live.unwritten other; placed = boxes.placed it.loan.number it.loan.book it.loan.slot live.placed };
-    written_loans = λ it live other. record { live = loan (written_key it) live.live other; written = mark it.loan.number _ live.written other; placed = boxes.placed it.loan.number it.loan.book it.loan.slot live.placed };
+    unwritten_loans = λ it live other. record {
+      live = loan (unwritten_key it) live.live other;
+      unwritten = mark it.loan.number _ live.unwritten other;
+      placed = boxes.placed it.loan.number it.loan.book it.loan.slot live.placed;
+    };
+    written_loans = λ it live other. record {
+      live = loan (written_key it) live.live other;
+      written = mark it.loan.number _ live.written other;
+      placed = boxes.placed it.loan.number it.loan.book it.loan.slot live.placed;
+    };
     samples = sample;
     live_samples = λ it live other. record {
       there = sample (sample_key it) live.there other;
@@ -429,10 +536,14 @@ module _ {T U F G : Type 0} (spent : Item) (old new : Kept T U F G) (remain : Po
     pending = λ it whose values was other apart.
         let has = pending-parts old it whose values was in
         let goes = goes-to it.loan.publisher it.loan.number whose.id has.1 other apart in
-        pending-from new it whose values (blocked (blocked_key it) has.0 other apart, goes, blocked-values it whose.id values goes has.2);
+        pending-from new it whose values
+        (blocked (blocked_key it) has.0 other apart, goes, blocked-values it whose.id values goes has.2);
     passed = λ it whose was other apart.
         let has = passed-parts old it whose was in
-        passed-from new it whose (blocked (blocked_key it) has.0 other apart, passes-by it.loan.publisher it.loan.number whose.id has.1 other apart);
+        passed-from new it whose (
+          blocked (blocked_key it) has.0 other apart,
+          passes-by it.loan.publisher it.loan.number whose.id has.1 other apart,
+        );
     loan_cells = loan-cells;
     loan_payloads = loan-values;
     loan_headers = λ key header live. loan-header key header;
@@ -443,30 +554,40 @@ module _ {T U F G : Type 0} (spent : Item) (old new : Kept T U F G) (remain : Po
   }
 
 -- seen from a state that is shown
-pub stays-between : {T U F G : Type 0} (spent : Item) (old new : Kept T U F G) (m m' : Messages T U) (s s' : State T U) → Shows old m s → Shows new m' s'
-    → ((n : ℕ) (entry : Entry T U) → m n ≡ Some entry → m' n ≡ Some entry) → PortsRemainBut spent s s' → LoansStayBut spent s s' → SamplesStayBut spent s s' → Waits (IsSpared spent) s s' → SparedPublishers spent old s s'
+pub stays-between : {T U F G : Type 0} (spent : Item) (old new : Kept T U F G) (m m' : Messages T U) (s s' : State T U)
+    → Shows old m s → Shows new m' s'
+    → ((n : ℕ) (entry : Entry T U) → m n ≡ Some entry → m' n ≡ Some entry) → PortsRemainBut spent s s'
+    → LoansStayBut spent s s' → SamplesStayBut spent s s' → Waits (IsSpared spent) s s'
+    → SparedPublishers spent old s s'
     → BoxesStayBut spent old new → StaysBut spent old new
 stays-between {T} {U} spent old new m m' s s' shown shown' sent remain loans samples waits goes-on boxes =
-    stays-but spent old new (between (PortsRemainBut spent) remain) (between (LoansStayBut spent) loans) (between (SamplesStayBut spent) samples)
-    (between (Waits (IsSpared spent)) waits) (between (SparedPublishers spent old) goes-on) (λ p x at. ((subst IsWellFormed shown.state shown.well_formed).publishers p x at).is_known) entries (consistent-shown new m' s' shown') boxes
+    stays-but spent old new (between (PortsRemainBut spent) remain) (between (LoansStayBut spent) loans)
+    (between (SamplesStayBut spent) samples)
+    (between (Waits (IsSpared spent)) waits) (between (SparedPublishers spent old) goes-on)
+    (λ p x at. ((subst IsWellFormed shown.state shown.well_formed).publishers p x at).is_known) entries
+    (consistent-shown new m' s' shown') boxes
   where
-    entries : (n p : ℕ) (entry : Entry T U) → entries_of old n ≡ Some entry → IsHeldMessage (state_of new) p n → entries_of new n ≡ Some entry
+    entries : (n p : ℕ) (entry : Entry T U) → entries_of old n ≡ Some entry → IsHeldMessage (state_of new) p n
+        → entries_of new n ≡ Some entry
     entries n p entry at held =
         let kept = shown'.complete p n held in
-        let both : Some kept.0 ≡ Some entry = sym (shown'.entries n kept.0 kept.1) ∙ sent n entry (shown.entries n entry at) in
+        let both : Some kept.0 ≡ Some entry =
+        sym (shown'.entries n kept.0 kept.1) ∙ sent n entry (shown.entries n entry at) in
         kept.1 ∙ both
 
     between : (P : State T U → State T U → Type 0) → P s s' → P (state_of old) (state_of new)
     between P h = subst (λ (t : State T U). P t (state_of new)) shown.state (subst (P s) shown'.state h)
 
--- what is made is new where it is another than each port, loan and sample that was there, and than each publisher that had no blocked
--- send, or one
-pub new-in : {T U F G : Type 0} (start : Kept T U F G) (made : Item) → ((key : Key) → IsPublisherKey start key → IsOtherPublisher made key.port)
+-- what is made is new where it is another than each port, loan and sample that was there, and than each publisher that
+-- had no blocked send, or one
+pub new-in : {T U F G : Type 0} (start : Kept T U F G) (made : Item)
+    → ((key : Key) → IsPublisherKey start key → IsOtherPublisher made key.port)
     → ((key : Key) → IsSubscriberKey start key → IsOtherSubscriber made key.port)
     → ((n : ℕ) (l : Loan T U) → (state_of start).loans n ≡ Some l → IsOtherLoan made n)
     → ((p q n : ℕ) → is_borrowed n ((state_of start).mailboxes p q) ≡ true → IsOtherSample made q n)
     → ((key : Key) → IsUnblocked start key → IsOtherPublisher made key.port × IsOtherBlocked made key.port)
-    → ((key : Key) → IsBlockedKey start key → IsOtherPublisher made key.port × IsOtherBlocked made key.port) → IsNewIn start made
+    → ((key : Key) → IsBlockedKey start key → IsOtherPublisher made key.port × IsOtherBlocked made key.port)
+    → IsNewIn start made
 new-in {T} {U} start made publishers subscribers loans samples unblocked blocked = record {
   publishers = publishers;
   subscribers = subscribers;
@@ -474,7 +595,8 @@ new-in {T} {U} start made publishers subscribers loans samples unblocked blocked
   unwritten_loans = λ it live. out (unwritten_key it) live.live;
   written_loans = λ it live. out (written_key it) live.live;
   samples = λ key live. let has = (sample-parts start key live).1 in samples has.0 key.port key.message has.1;
-  live_samples = λ it live. let has = (sample-parts start (sample_key it) live.there).1 in samples has.0 it.sample.subscriber it.sample.number has.1;
+  live_samples = λ it live. let has = (sample-parts start (sample_key it) live.there).1 in
+      samples has.0 it.sample.subscriber it.sample.number has.1;
   origins = λ it from. samples it.origin it.sample.subscriber it.sample.number (origin-parts start it from);
   cells = λ n cells has. let it = cells-parts start n cells has in loans n it.0 it.1;
   payloads = λ n values has. let it = values-parts start n values has in loans n it.0 it.1;
@@ -489,7 +611,8 @@ new-in {T} {U} start made publishers subscribers loans samples unblocked blocked
 
 -- nothing is always new
 pub nothing-is-new : {T U F G : Type 0} (start : Kept T U F G) → IsNewIn start No_item
-nothing-is-new start = new-in start No_item (λ key live. tt) (λ key live. tt) (λ n l out. tt) (λ p q n borrowed. tt) (λ key free. (tt, tt)) (λ key live. (tt, tt))
+nothing-is-new start = new-in start No_item (λ key live. tt) (λ key live. tt) (λ n l out. tt) (λ p q n borrowed. tt)
+    (λ key free. (tt, tt)) (λ key live. (tt, tt))
 
 -- nothing changed
 pub unchanged-stays : {T U F G : Type 0} (spent : Item) (kept : Kept T U F G) → StaysBut spent kept kept
@@ -548,14 +671,19 @@ module _ {T U F G : Type 0} (start : Kept T U F G) where
     origins = λ it from. (a.origins it from, b.origins it from);
     cells = λ n cells has. (a.cells n cells has, b.cells n cells has);
     payloads = λ n values has. (a.payloads n values has, b.payloads n values has);
-    unblocked = λ key free. (((a.unblocked key free).0, (b.unblocked key free).0), ((a.unblocked key free).1, (b.unblocked key free).1));
+    unblocked = λ key free.
+        (((a.unblocked key free).0, (b.unblocked key free).0), ((a.unblocked key free).1, (b.unblocked key free).1));
     blocked_sends = blocked;
     pending = λ it whose values has. blocked (blocked_key it) (pending-parts start it whose values has).0;
     passed = λ it whose has. blocked (blocked_key it) (passed-parts start it whose has).0;
   }
     where
-      blocked : (key : Key) → IsBlockedKey start key → IsOtherPublisher (Both first second) key.port × IsOtherBlocked (Both first second) key.port
-      blocked key live = (((a.blocked_sends key live).0, (b.blocked_sends key live).0), ((a.blocked_sends key live).1, (b.blocked_sends key live).1))
+      blocked : (key : Key) → IsBlockedKey start key
+          → IsOtherPublisher (Both first second) key.port × IsOtherBlocked (Both first second) key.port
+      blocked key live = (
+        ((a.blocked_sends key live).0, (b.blocked_sends key live).0),
+        ((a.blocked_sends key live).1, (b.blocked_sends key live).1),
+      )
 
   -- a blocked send of a new publisher is new
   pub blocked-new : (p : ℕ) → IsNewIn start (A_publisher p) → IsNewIn start (A_blocked_send p)
@@ -608,10 +736,17 @@ sent-copy-part p is_blocked = record {
 
 -- nothing is a part of each item
 pub no-part : (item : Item) → IsPartOf No_item item
-no-part item = record { publishers = λ p other. tt; subscribers = λ q other. tt; loans = λ n other. tt; samples = λ q n other. tt; blocked_sends = λ p other. tt }
+no-part item = record {
+  publishers = λ p other. tt;
+  subscribers = λ q other. tt;
+  loans = λ n other. tt;
+  samples = λ q n other. tt;
+  blocked_sends = λ p other. tt;
+}
 
 -- a loan that is sent is no more than the loan and what a copy spends
-pub sent-loan-copy-part : (n p : ℕ) (is_blocked : Bool) → IsPartOf (A_sent_loan n p is_blocked) (Both (A_loan n) (A_sent_copy p is_blocked))
+pub sent-loan-copy-part : (n p : ℕ) (is_blocked : Bool)
+    → IsPartOf (A_sent_loan n p is_blocked) (Both (A_loan n) (A_sent_copy p is_blocked))
 sent-loan-copy-part n p is_blocked = record {
   publishers = λ p other. tt;
   subscribers = λ q other. tt;
@@ -620,12 +755,14 @@ sent-loan-copy-part n p is_blocked = record {
   blocked_sends = λ r other. apart is_blocked r other.1;
 }
   where
-    apart : (is_blocked : Bool) (r : ℕ) → IsOtherBlocked (A_sent_copy p is_blocked) r → IsOtherBlocked (A_sent_loan n p is_blocked) r
+    apart : (is_blocked : Bool) (r : ℕ) → IsOtherBlocked (A_sent_copy p is_blocked) r
+        → IsOtherBlocked (A_sent_loan n p is_blocked) r
     apart true r other = other
     apart false r other = tt
 
 -- a loan that is sent is no more than the loan and a blocked send
-pub sent-loan-part : (n p : ℕ) (is_blocked : Bool) → IsPartOf (A_sent_loan n p is_blocked) (Both (A_loan n) (A_blocked_send p))
+pub sent-loan-part : (n p : ℕ) (is_blocked : Bool)
+    → IsPartOf (A_sent_loan n p is_blocked) (Both (A_loan n) (A_blocked_send p))
 sent-loan-part n p is_blocked = record {
   publishers = λ p other. tt;
   subscribers = λ q other. tt;
@@ -639,7 +776,8 @@ sent-loan-part n p is_blocked = record {
     apart false r other = tt
 
 -- a part of what is new is new
-pub part-new : {T U F G : Type 0} (start : Kept T U F G) (part whole : Item) → IsPartOf part whole → IsNewIn start whole → IsNewIn start part
+pub part-new : {T U F G : Type 0} (start : Kept T U F G) (part whole : Item) → IsPartOf part whole → IsNewIn start whole
+    → IsNewIn start part
 part-new start part whole is new = record {
   publishers = λ key live. is.publishers key.port (new.publishers key live);
   subscribers = λ key live. is.subscribers key.port (new.subscribers key live);
@@ -651,14 +789,19 @@ part-new start part whole is new = record {
   origins = λ it from. is.samples it.sample.subscriber it.sample.number (new.origins it from);
   cells = λ n cells has. is.loans n (new.cells n cells has);
   payloads = λ n values has. is.loans n (new.payloads n values has);
-  unblocked = λ key free. let apart = new.unblocked key free in (is.publishers key.port apart.0, is.blocked_sends key.port apart.1);
-  blocked_sends = λ key live. let apart = new.blocked_sends key live in (is.publishers key.port apart.0, is.blocked_sends key.port apart.1);
-  pending = λ it whose values has. let apart = new.pending it whose values has in (is.publishers it.loan.publisher apart.0, is.blocked_sends it.loan.publisher apart.1);
-  passed = λ it whose has. let apart = new.passed it whose has in (is.publishers it.loan.publisher apart.0, is.blocked_sends it.loan.publisher apart.1);
+  unblocked = λ key free. let apart = new.unblocked key free in
+      (is.publishers key.port apart.0, is.blocked_sends key.port apart.1);
+  blocked_sends = λ key live. let apart = new.blocked_sends key live in
+      (is.publishers key.port apart.0, is.blocked_sends key.port apart.1);
+  pending = λ it whose values has. let apart = new.pending it whose values has in
+      (is.publishers it.loan.publisher apart.0, is.blocked_sends it.loan.publisher apart.1);
+  passed = λ it whose has. let apart = new.passed it whose has in
+      (is.publishers it.loan.publisher apart.0, is.blocked_sends it.loan.publisher apart.1);
 }
 
 -- what stays but for an item stays but for what that is a part of
-pub stays-but-whole : {T U F G : Type 0} (part whole : Item) → IsPartOf part whole → (old new : Kept T U F G) → StaysBut part old new → StaysBut whole old new
+pub stays-but-whole : {T U F G : Type 0} (part whole : Item) → IsPartOf part whole → (old new : Kept T U F G)
+    → StaysBut part old new → StaysBut whole old new
 stays-but-whole part whole is old new stays = record {
   settings = stays.settings;
   consistent = stays.consistent;
@@ -683,65 +826,98 @@ stays-but-whole part whole is old new stays = record {
   unblocked = λ key free other. stays.unblocked key free (is.blocked_sends key.port other);
   never_wait = stays.never_wait;
   never_fail = stays.never_fail;
-  blocked_sends = λ key live other alike. stays.blocked_sends key live (is.publishers key.port other) (is.blocked_sends key.port alike);
-  pending = λ it whose values has other alike. stays.pending it whose values has (is.publishers it.loan.publisher other) (is.blocked_sends it.loan.publisher alike);
-  passed = λ it whose has other alike. stays.passed it whose has (is.publishers it.loan.publisher other) (is.blocked_sends it.loan.publisher alike);
+  blocked_sends = λ key live other alike.
+      stays.blocked_sends key live (is.publishers key.port other) (is.blocked_sends key.port alike);
+  pending = λ it whose values has other alike. stays.pending it whose values has (is.publishers it.loan.publisher other)
+      (is.blocked_sends it.loan.publisher alike);
+  passed = λ it whose has other alike.
+      stays.passed it whose has (is.publishers it.loan.publisher other) (is.blocked_sends it.loan.publisher alike);
   loan_cells = λ n cells has other. stays.loan_cells n cells has (is.loans n other);
   loan_payloads = λ n values has other. stays.loan_payloads n values has (is.loans n other);
   loan_headers = λ key header live has other. stays.loan_headers key header live has (is.loans key.message other);
-  loan_user_headers = λ key header live has other. stays.loan_user_headers key header live has (is.loans key.message other);
-  sample_payloads = λ key values live has other. stays.sample_payloads key values live has (is.samples key.port key.message other);
-  sample_headers = λ key header live has other. stays.sample_headers key header live has (is.samples key.port key.message other);
-  sample_user_headers = λ key header live has other. stays.sample_user_headers key header live has (is.samples key.port key.message other);
+  loan_user_headers =
+      λ key header live has other. stays.loan_user_headers key header live has (is.loans key.message other);
+  sample_payloads =
+      λ key values live has other. stays.sample_payloads key values live has (is.samples key.port key.message other);
+  sample_headers =
+      λ key header live has other. stays.sample_headers key header live has (is.samples key.port key.message other);
+  sample_user_headers = λ key header live has other.
+      stays.sample_user_headers key header live has (is.samples key.port key.message other);
 }
 
 -- what stays but for an item stays but for that and another
-pub stays-but-more : {T U F G : Type 0} (first second : Item) (old new : Kept T U F G) → StaysBut first old new → StaysBut (Both first second) old new
+pub stays-but-more : {T U F G : Type 0} (first second : Item) (old new : Kept T U F G) → StaysBut first old new
+    → StaysBut (Both first second) old new
 stays-but-more first second = stays-but-whole first (Both first second) (first-part first second)
 
 -- ---- one step after another
 
--- What was there at the start, and is another than the item, is another than what the first step spent, and than what the second did.
+-- What was there at the start, and is another than the item, is another than what the first step spent, and than what
+-- the second did.
 record Spares {T U F G : Type 0} (start : Kept T U F G) (first second spent : Item) : Type 0 where
-  publishers : (key : Key) → IsPublisherKey start key → IsOtherPublisher spent key.port → IsOtherPublisher first key.port × IsOtherPublisher second key.port
-  subscribers : (key : Key) → IsSubscriberKey start key → IsOtherSubscriber spent key.port → IsOtherSubscriber first key.port × IsOtherSubscriber second key.port
-  loans : (key : Key) → IsLoanKey start key → IsOtherLoan spent key.message → IsOtherLoan first key.message × IsOtherLoan second key.message
-  unwritten_loans : (it : SampleMutUninit) → IsUnwritten start it → IsOtherLoan spent it.loan.number → IsOtherLoan first it.loan.number × IsOtherLoan second it.loan.number
-  written_loans : (it : SampleMut) → IsWritten start it → IsOtherLoan spent it.loan.number → IsOtherLoan first it.loan.number × IsOtherLoan second it.loan.number
-  samples : (key : Key) → IsSampleKey start key → IsOtherSample spent key.port key.message → IsOtherSample first key.port key.message × IsOtherSample second key.port key.message
+  publishers : (key : Key) → IsPublisherKey start key → IsOtherPublisher spent key.port
+      → IsOtherPublisher first key.port × IsOtherPublisher second key.port
+  subscribers : (key : Key) → IsSubscriberKey start key → IsOtherSubscriber spent key.port
+      → IsOtherSubscriber first key.port × IsOtherSubscriber second key.port
+  loans : (key : Key) → IsLoanKey start key → IsOtherLoan spent key.message
+      → IsOtherLoan first key.message × IsOtherLoan second key.message
+  unwritten_loans : (it : SampleMutUninit) → IsUnwritten start it → IsOtherLoan spent it.loan.number
+      → IsOtherLoan first it.loan.number × IsOtherLoan second it.loan.number
+  written_loans : (it : SampleMut) → IsWritten start it → IsOtherLoan spent it.loan.number
+      → IsOtherLoan first it.loan.number × IsOtherLoan second it.loan.number
+  samples : (key : Key) → IsSampleKey start key → IsOtherSample spent key.port key.message
+      → IsOtherSample first key.port key.message × IsOtherSample second key.port key.message
   origins : (it : Sample) → IsFromOrigin start it → IsOtherSample spent it.sample.subscriber it.sample.number
-      → IsOtherSample first it.sample.subscriber it.sample.number × IsOtherSample second it.sample.subscriber it.sample.number
-  cells : (n : ℕ) (cells : List (Option T)) → HasUnwrittenCells start n cells → IsOtherLoan spent n → IsOtherLoan first n × IsOtherLoan second n
-  payloads : (n : ℕ) (values : List T) → HasValues start n values → IsOtherLoan spent n → IsOtherLoan first n × IsOtherLoan second n
+      → IsOtherSample first it.sample.subscriber it.sample.number
+      × IsOtherSample second it.sample.subscriber it.sample.number
+  cells : (n : ℕ) (cells : List (Option T)) → HasUnwrittenCells start n cells → IsOtherLoan spent n
+      → IsOtherLoan first n × IsOtherLoan second n
+  payloads : (n : ℕ) (values : List T) → HasValues start n values → IsOtherLoan spent n
+      → IsOtherLoan first n × IsOtherLoan second n
   blocked_sends : (key : Key) → IsBlockedKey start key → IsOtherPublisher spent key.port → IsOtherBlocked spent key.port
-      → (IsOtherPublisher first key.port × IsOtherBlocked first key.port) × IsOtherPublisher second key.port × IsOtherBlocked second key.port
+      → (IsOtherPublisher first key.port × IsOtherBlocked first key.port) × IsOtherPublisher second key.port
+      × IsOtherBlocked second key.port
 
 -- So all that stays, but which publishers have no blocked send.
-stays-through : {T U F G : Type 0} (start old new : Kept T U F G) (first second spent : Item) → Spares start first second spent → StaysBut first start old → StaysBut second old new
-    → ((key : Key) → IsUnblocked start key → IsOtherBlocked spent key.port → IsUnblocked new key) → StaysBut spent start new
+stays-through : {T U F G : Type 0} (start old new : Kept T U F G) (first second spent : Item)
+    → Spares start first second spent → StaysBut first start old → StaysBut second old new
+    → ((key : Key) → IsUnblocked start key → IsOtherBlocked spent key.port → IsUnblocked new key)
+    → StaysBut spent start new
 stays-through start old new first second spent spares before next unblocked = record {
   settings = next.settings ∙ before.settings;
   consistent = λ was. next.consistent (before.consistent was);
   single_valued = λ was. next.single_valued (before.single_valued was);
   holds_slices = λ was. next.holds_slices (before.holds_slices was);
   sliced = λ was. next.sliced (before.sliced was);
-  publishers = λ key live other. let apart = spares.publishers key live other in next.publishers key (before.publishers key live apart.0) apart.1;
-  boxes = λ key live other. let apart = spares.publishers key live other in next.boxes key (before.publishers key live apart.0) apart.1 ∙ before.boxes key live apart.0;
+  publishers = λ key live other. let apart = spares.publishers key live other in
+      next.publishers key (before.publishers key live apart.0) apart.1;
+  boxes = λ key live other. let apart = spares.publishers key live other in
+      next.boxes key (before.publishers key live apart.0) apart.1 ∙ before.boxes key live apart.0;
   degradation_boxes = λ key live other.
-      let apart = spares.publishers key live other in next.degradation_boxes key (before.publishers key live apart.0) apart.1 ∙ before.degradation_boxes key live apart.0;
+      let apart = spares.publishers key live other in next.degradation_boxes key
+      (before.publishers key live apart.0) apart.1 ∙ before.degradation_boxes key live apart.0;
   subscriber_boxes = λ key live other.
-      let apart = spares.subscribers key live other in next.subscriber_boxes key (before.subscribers key live apart.0) apart.1 ∙ before.subscriber_boxes key live apart.0;
-  subscribers = λ key live other. let apart = spares.subscribers key live other in next.subscribers key (before.subscribers key live apart.0) apart.1;
+      let apart = spares.subscribers key live other in next.subscriber_boxes key
+      (before.subscribers key live apart.0) apart.1 ∙ before.subscriber_boxes key live apart.0;
+  subscribers = λ key live other. let apart = spares.subscribers key live other in
+      next.subscribers key (before.subscribers key live apart.0) apart.1;
   placed_publishers = λ it was. next.placed_publishers it (before.placed_publishers it was);
   placed_subscribers = λ it was. next.placed_subscribers it (before.placed_subscribers it was);
   buffers = λ it was. next.buffers it (before.buffers it was);
-  loans = λ key live other. let apart = spares.loans key live other in next.loans key (before.loans key live apart.0) apart.1;
-  unwritten_loans = λ it live other. let apart = spares.unwritten_loans it live other in next.unwritten_loans it (before.unwritten_loans it live apart.0) apart.1;
-  written_loans = λ it live other. let apart = spares.written_loans it live other in next.written_loans it (before.written_loans it live apart.0) apart.1;
-  samples = λ key live other. let apart = spares.samples key live other in next.samples key (before.samples key live apart.0) apart.1;
-  live_samples = λ it live other. let apart = spares.samples (sample_key it) live.there other in next.live_samples it (before.live_samples it live apart.0) apart.1;
-  placed_messages = λ number book slot was. next.placed_messages number book slot (before.placed_messages number book slot was);
-  origins = λ it from other. let apart = spares.origins it from other in next.origins it (before.origins it from apart.0) apart.1;
+  loans = λ key live other. let apart = spares.loans key live other in
+      next.loans key (before.loans key live apart.0) apart.1;
+  unwritten_loans = λ it live other. let apart = spares.unwritten_loans it live other in
+      next.unwritten_loans it (before.unwritten_loans it live apart.0) apart.1;
+  written_loans = λ it live other. let apart = spares.written_loans it live other in
+      next.written_loans it (before.written_loans it live apart.0) apart.1;
+  samples = λ key live other. let apart = spares.samples key live other in
+      next.samples key (before.samples key live apart.0) apart.1;
+  live_samples = λ it live other. let apart = spares.samples (sample_key it) live.there other in
+      next.live_samples it (before.live_samples it live apart.0) apart.1;
+  placed_messages =
+      λ number book slot was. next.placed_messages number book slot (before.placed_messages number book slot was);
+  origins = λ it from other. let apart = spares.origins it from other in
+      next.origins it (before.origins it from apart.0) apart.1;
   unblocked = unblocked;
   never_wait = λ key was. next.never_wait key (before.never_wait key was);
   never_fail = λ publisher was. next.never_fail publisher (before.never_fail publisher was);
@@ -754,26 +930,36 @@ stays-through start old new first second spent spares before next unblocked = re
   passed = λ it whose has other alike.
       let apart = spares.blocked_sends (blocked_key it) (passed-parts start it whose has).0 other alike in
       next.passed it whose (before.passed it whose has (apart.0).0 (apart.0).1) apart.1 apart.2;
-  loan_cells = λ n cells has other. let apart = spares.cells n cells has other in next.loan_cells n cells (before.loan_cells n cells has apart.0) apart.1;
-  loan_payloads = λ n values has other. let apart = spares.payloads n values has other in next.loan_payloads n values (before.loan_payloads n values has apart.0) apart.1;
+  loan_cells = λ n cells has other. let apart = spares.cells n cells has other in
+      next.loan_cells n cells (before.loan_cells n cells has apart.0) apart.1;
+  loan_payloads = λ n values has other. let apart = spares.payloads n values has other in
+      next.loan_payloads n values (before.loan_payloads n values has apart.0) apart.1;
   loan_headers = λ key header live has other.
-      let apart = spares.loans key live other in next.loan_headers key header (before.loans key live apart.0) (before.loan_headers key header live has apart.0) apart.1;
+      let apart = spares.loans key live other in next.loan_headers key header (before.loans key live apart.0)
+      (before.loan_headers key header live has apart.0) apart.1;
   loan_user_headers = λ key header live has other.
-      let apart = spares.loans key live other in next.loan_user_headers key header (before.loans key live apart.0) (before.loan_user_headers key header live has apart.0) apart.1;
+      let apart = spares.loans key live other in next.loan_user_headers key header (before.loans key live apart.0)
+      (before.loan_user_headers key header live has apart.0) apart.1;
   sample_payloads = λ key values live has other.
-      let apart = spares.samples key live other in next.sample_payloads key values (before.samples key live apart.0) (before.sample_payloads key values live has apart.0) apart.1;
+      let apart = spares.samples key live other in next.sample_payloads key values (before.samples key live apart.0)
+      (before.sample_payloads key values live has apart.0) apart.1;
   sample_headers = λ key header live has other.
-      let apart = spares.samples key live other in next.sample_headers key header (before.samples key live apart.0) (before.sample_headers key header live has apart.0) apart.1;
+      let apart = spares.samples key live other in next.sample_headers key header (before.samples key live apart.0)
+      (before.sample_headers key header live has apart.0) apart.1;
   sample_user_headers = λ key header live has other.
-      let apart = spares.samples key live other in next.sample_user_headers key header (before.samples key live apart.0) (before.sample_user_headers key header live has apart.0) apart.1;
+      let apart = spares.samples key live other in next.sample_user_headers key header (before.samples key live apart.0)
+      (before.sample_user_headers key header live has apart.0) apart.1;
 }
 
 -- Where what was spent says so alone, whatever there was at the start.
-spares-alike : {T U F G : Type 0} (start : Kept T U F G) (first second spent : Item) → ((id : ℕ) → IsOtherPublisher spent id → IsOtherPublisher first id × IsOtherPublisher second id)
-    → ((id : ℕ) → IsOtherSubscriber spent id → IsOtherSubscriber first id × IsOtherSubscriber second id) → ((n : ℕ) → IsOtherLoan spent n → IsOtherLoan first n × IsOtherLoan second n)
+spares-alike : {T U F G : Type 0} (start : Kept T U F G) (first second spent : Item)
+    → ((id : ℕ) → IsOtherPublisher spent id → IsOtherPublisher first id × IsOtherPublisher second id)
+    → ((id : ℕ) → IsOtherSubscriber spent id → IsOtherSubscriber first id × IsOtherSubscriber second id)
+    → ((n : ℕ) → IsOtherLoan spent n → IsOtherLoan first n × IsOtherLoan second n)
     → ((id n : ℕ) → IsOtherSample spent id n → IsOtherSample first id n × IsOtherSample second id n)
     → ((key : Key) → IsBlockedKey start key → IsOtherPublisher spent key.port → IsOtherBlocked spent key.port
-    → (IsOtherPublisher first key.port × IsOtherBlocked first key.port) × IsOtherPublisher second key.port × IsOtherBlocked second key.port) → Spares start first second spent
+    → (IsOtherPublisher first key.port × IsOtherBlocked first key.port) × IsOtherPublisher second key.port
+    × IsOtherBlocked second key.port) → Spares start first second spent
 spares-alike start first second spent publishers subscribers loans samples blocked = record {
   publishers = λ key _. publishers key.port;
   subscribers = λ key _. subscribers key.port;
@@ -788,12 +974,15 @@ spares-alike start first second spent publishers subscribers loans samples block
 }
 
 -- what stays twice but for an item stays but for it
-pub stays-twice : {T U F G : Type 0} (spent : Item) (start old new : Kept T U F G) → StaysBut spent start old → StaysBut spent old new → StaysBut spent start new
+pub stays-twice : {T U F G : Type 0} (spent : Item) (start old new : Kept T U F G) → StaysBut spent start old
+    → StaysBut spent old new → StaysBut spent start new
 stays-twice spent start old new before next =
-    stays-through start old new spent spent spent spared before next (λ key free other. next.unblocked key (before.unblocked key free other) other)
+    stays-through start old new spent spent spent spared before next
+    (λ key free other. next.unblocked key (before.unblocked key free other) other)
   where
     spared : Spares start spent spent spent
-    spared = spares-alike start spent spent spent (λ id other. (other, other)) (λ id other. (other, other)) (λ n other. (other, other)) (λ id n other. (other, other))
+    spared = spares-alike start spent spent spent (λ id other. (other, other)) (λ id other. (other, other))
+        (λ n other. (other, other)) (λ id n other. (other, other))
         (λ key live other alike. ((other, alike), other, alike))
 
 module _ {T U F G : Type 0} (start old : Kept T U F G) (before : Stays start old) (item : Item) where
@@ -817,7 +1006,8 @@ module _ {T U F G : Type 0} (start old : Kept T U F G) (before : Stays start old
   }
 
   -- where an item that was new is spent, all that was there before stays but for what is spent beside it
-  pub stays-on-but : (spent : Item) (new : Kept T U F G) → IsNewIn start item → StaysBut (Both item spent) old new → StaysBut spent start new
+  pub stays-on-but : (spent : Item) (new : Kept T U F G) → IsNewIn start item → StaysBut (Both item spent) old new
+      → StaysBut spent start new
   stays-on-but spent new apart next =
       stays-through start old new No_item (Both item spent) spent spared before next
       (λ key free other. next.unblocked key (before.unblocked key free tt) ((apart.unblocked key free).1, other))
@@ -833,7 +1023,8 @@ module _ {T U F G : Type 0} (start old : Kept T U F G) (before : Stays start old
         origins = λ it from other. (tt, (apart.origins it from, other));
         cells = λ n cells has other. (tt, (apart.cells n cells has, other));
         payloads = λ n values has other. (tt, (apart.payloads n values has, other));
-        blocked_sends = λ key live other alike. let new = apart.blocked_sends key live in ((tt, tt), (new.0, other), (new.1, alike));
+        blocked_sends = λ key live other alike. let new = apart.blocked_sends key live in
+            ((tt, tt), (new.0, other), (new.1, alike));
       }
 
   -- and where nothing is, all that was there before stays
@@ -841,7 +1032,8 @@ module _ {T U F G : Type 0} (start old : Kept T U F G) (before : Stays start old
   stays-on new apart next = stays-on-but No_item new apart (stays-but-more item No_item old new next)
 
 -- a new loan that is written and sent leaves what a copy leaves
-pub copy-stays : {T U F G : Type 0} (start lent mid new : Kept T U F G) (n p : ℕ) (is_blocked : Bool) → Stays start lent → IsNewIn start (A_loan n) → StaysBut (A_loan n) lent mid → StaysBut (A_sent_loan n p is_blocked) mid new
+pub copy-stays : {T U F G : Type 0} (start lent mid new : Kept T U F G) (n p : ℕ) (is_blocked : Bool) → Stays start lent
+    → IsNewIn start (A_loan n) → StaysBut (A_loan n) lent mid → StaysBut (A_sent_loan n p is_blocked) mid new
     → StaysBut (A_sent_copy p is_blocked) start new
 copy-stays start lent mid new n p is_blocked before is_new wrote sent =
     let both : Item = Both (A_loan n) (A_sent_copy p is_blocked) in
@@ -854,13 +1046,17 @@ copy-stays start lent mid new n p is_blocked before is_new wrote sent =
 -- a publisher with a blocked send isn't unblocked
 waits-not : {T U F G : Type 0} (kept : Kept T U F G) (key : Key) → IsBlockedKey kept key → IsUnblocked kept key → ⊥
 unfolding IsBlockedKey IsUnblocked
-waits-not kept key live free = let no : None ≡ Some (live.1).1 = sym (free.1 (live.1).0 (live.1).2) ∙ (live.1).3 in absurd cc
+waits-not kept key live free = let no : None ≡ Some (live.1).1 = sym (free.1 (live.1).0 (live.1).2) ∙ (live.1).3 in
+    absurd cc
 
--- What stood before a send of the publisher blocked, none of whose sends was blocked, stands when the blocked send has ended.
-pub stays-since-block : {T U F G : Type 0} (p : ℕ) (start old new : Kept T U F G) → ((key : Key) → key.port ≡ p → IsUnblocked start key) → StaysBut (A_blocked_send p) start old
+-- What stood before a send of the publisher blocked, none of whose sends was blocked, stands when the blocked send has
+-- ended.
+pub stays-since-block : {T U F G : Type 0} (p : ℕ) (start old new : Kept T U F G)
+    → ((key : Key) → key.port ≡ p → IsUnblocked start key) → StaysBut (A_blocked_send p) start old
     → StaysBut (A_blocked_send p) old new → ((key : Key) → key.port ≡ p → IsUnblocked new key) → Stays start new
 stays-since-block {T} {U} {F} {G} p start old new was before next frees =
-    stays-through start old new (A_blocked_send p) (A_blocked_send p) No_item spared before next (λ key free other. unblocked key free)
+    stays-through start old new (A_blocked_send p) (A_blocked_send p) No_item spared before next
+    (λ key free other. unblocked key free)
   where
     unblocked : (key : Key) → IsUnblocked start key → IsUnblocked new key
     unblocked key free = elim (cases_eq key.port p) [
@@ -872,5 +1068,6 @@ stays-since-block {T} {U} {F} {G} p start old new was before next frees =
     away key live its = waits-not start key live (was key its)
 
     spared : Spares start (A_blocked_send p) (A_blocked_send p) No_item
-    spared = spares-alike start (A_blocked_send p) (A_blocked_send p) No_item (λ id other. (tt, tt)) (λ id other. (tt, tt)) (λ n other. (tt, tt)) (λ id n other. (tt, tt))
+    spared = spares-alike start (A_blocked_send p) (A_blocked_send p) No_item (λ id other. (tt, tt))
+        (λ id other. (tt, tt)) (λ n other. (tt, tt)) (λ id n other. (tt, tt))
         (λ key live other alike. ((tt, away key live), tt, away key live))

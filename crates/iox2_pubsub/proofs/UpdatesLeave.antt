@@ -26,18 +26,24 @@ use Rattle.iox2_pubsub.proofs.LoansLeftShown.{receive-left, update-publisher-lef
 use Rattle.iox2_pubsub.proofs.QuestionShown.{answered}
 use Rattle.iox2_pubsub.proofs.StaysBut.{BoxesStayBut, IsSpared}
 use Rattle.iox2_pubsub.proofs.UpdatesStay.{updates-stay}
-use Rattle.iox2_pubsub.proofs.UpToDateShown.{answers-updated, publisher-update-leaves, receive-leaves, subscriber-update-leaves}
-use Rattle.iox2_pubsub.proofs.WaitingShown.{publisher-update-adds, received-no-more, received-others, subscriber-update-adds, update-no-more, update-others}
+use Rattle.iox2_pubsub.proofs.UpToDateShown.{answers-updated, publisher-update-leaves, receive-leaves}
+use Rattle.iox2_pubsub.proofs.UpToDateShown.{subscriber-update-leaves}
+use Rattle.iox2_pubsub.proofs.WaitingShown.{publisher-update-adds, received-no-more, received-others}
+use Rattle.iox2_pubsub.proofs.WaitingShown.{subscriber-update-adds, update-no-more, update-others}
 
-module _ {T U F G : Type 0} {boxes : DomainBoxes F G} (f : Fields T U) (old new : Kept T U F G) (sound : IsDomain f) (view : keeping boxes f ≡ old) (boxed : BoxesStayBut No_item old new) (environment : Environment) where
+module _ {T U F G : Type 0} {boxes : DomainBoxes F G} (f : Fields T U) (old new : Kept T U F G) (sound : IsDomain f)
+    (view : keeping boxes f ≡ old) (boxed : BoxesStayBut No_item old new) (environment : Environment) where
   -- a publisher's update
   pub publisher-update-left : (p : ℕ) (failure : Option ConnectionFailure)
-      → ((m : Messages T U) (s : State T U) → Shows old m s → (s' : State T U) × Shows new m s' × UpdatePublisher environment s p s' failure) → LeavesAdding (old.config).history_size old new
+      → ((m : Messages T U) (s : State T U) → Shows old m s → (s' : State T U) × Shows new m s'
+      × UpdatePublisher environment s p s' failure) → LeavesAdding (old.config).history_size old new
   publisher-update-left p failure updates =
       let it = always-shown f old sound view in
       let step = updates it.0 it.1 it.2 in
       record {
-        stays = updates-stay old new it.0 it.1 step.0 it.2 step.1 (update_publisher_stays environment it.1 p step.0 failure step.2) (update_publisher_loans environment it.1 p step.0 failure step.2)
+        stays = updates-stay old new it.0 it.1 step.0 it.2 step.1
+            (update_publisher_stays environment it.1 p step.0 failure step.2)
+            (update_publisher_loans environment it.1 p step.0 failure step.2)
             (update_publisher_waits (IsSpared No_item) environment it.1 p step.0 failure step.2) boxed;
         adds = publisher-update-adds old new it.0 it.0 it.1 step.0 it.2 step.1 environment p failure step.2;
         up_to_date = publisher-update-leaves old new it.0 it.0 it.1 step.0 it.2 step.1 environment p failure step.2;
@@ -47,10 +53,13 @@ module _ {T U F G : Type 0} {boxes : DomainBoxes F G} (f : Fields T U) (old new 
 
   module _ (subscriber : Subscriber) where
     -- one step of a subscriber's update
-    update-step-left : (m : Messages T U) (s s' : State T U) → Shows old m s → Shows new m s' → (failure : Option ConnectionFailure) → UpdateSubscriber environment s subscriber.id s' failure
+    update-step-left : (m : Messages T U) (s s' : State T U) → Shows old m s → Shows new m s'
+        → (failure : Option ConnectionFailure) → UpdateSubscriber environment s subscriber.id s' failure
         → LeavesButWaiting subscriber old new
     update-step-left m s s' shown shown' failure h = record {
-      stays = updates-stay old new m s s' shown shown' (update_subscriber_stays environment s subscriber.id s' failure h) (update_subscriber_loans environment s subscriber.id s' failure h)
+      stays = updates-stay old new m s s' shown shown'
+          (update_subscriber_stays environment s subscriber.id s' failure h)
+          (update_subscriber_loans environment s subscriber.id s' failure h)
           (update_subscriber_waits (IsSpared No_item) environment s subscriber.id s' failure h) boxed;
       others = update-others old new m m s s' shown shown' environment subscriber (λ n entry at. at) failure h;
       no_more = update-no-more old new m m s s' shown shown' environment subscriber failure h;
@@ -60,22 +69,26 @@ module _ {T U F G : Type 0} {boxes : DomainBoxes F G} (f : Fields T U) (old new 
 
     -- a subscriber's update
     pub subscriber-update-left : (failure : Option ConnectionFailure)
-        → ((m : Messages T U) (s : State T U) → Shows old m s → (s' : State T U) × Shows new m s' × UpdateSubscriber environment s subscriber.id s' failure) → LeavesAdding 0 old new
+        → ((m : Messages T U) (s : State T U) → Shows old m s → (s' : State T U) × Shows new m s'
+        × UpdateSubscriber environment s subscriber.id s' failure) → LeavesAdding 0 old new
     subscriber-update-left failure updates =
         let it = always-shown f old sound view in
         let step = updates it.0 it.1 it.2 in
         let left = update-step-left it.0 it.1 step.0 it.2 step.1 failure step.2 in
         record {
           stays = left.stays;
-          adds = subscriber-update-adds old new it.0 it.0 it.1 step.0 it.2 step.1 environment subscriber.id failure step.2;
+          adds =
+              subscriber-update-adds old new it.0 it.0 it.1 step.0 it.2 step.1 environment subscriber.id failure step.2;
           up_to_date = left.up_to_date;
           loans_left = left.loans_left;
-          borrows_left = update-subscriber-borrows old new it.0 it.0 it.1 step.0 it.2 step.1 environment subscriber.id failure step.2;
+          borrows_left = update-subscriber-borrows old new it.0 it.0 it.1 step.0 it.2 step.1 environment subscriber.id
+              failure step.2;
         }
 
     -- a question
     pub question-left : (result : Result Bool ConnectionFailure)
-        → ((m : Messages T U) (s : State T U) → Shows old m s → (s' : State T U) × Shows new m s' × IsAnswer environment s subscriber.id result s') → LeavesButWaiting subscriber old new
+        → ((m : Messages T U) (s : State T U) → Shows old m s → (s' : State T U) × Shows new m s'
+        × IsAnswer environment s subscriber.id result s') → LeavesButWaiting subscriber old new
     question-left result answers =
         let it = always-shown f old sound view in
         let step = answers it.0 it.1 it.2 in
@@ -84,7 +97,8 @@ module _ {T U F G : Type 0} {boxes : DomainBoxes F G} (f : Fields T U) (old new 
 
     -- it borrows nothing
     pub question-borrows : (result : Result Bool ConnectionFailure)
-        → ((m : Messages T U) (s : State T U) → Shows old m s → (s' : State T U) × Shows new m s' × IsAnswer environment s subscriber.id result s') → BorrowsLeftStay old new
+        → ((m : Messages T U) (s : State T U) → Shows old m s → (s' : State T U) × Shows new m s'
+        × IsAnswer environment s subscriber.id result s') → BorrowsLeftStay old new
     question-borrows result answers =
         let it = always-shown f old sound view in
         let step = answers it.0 it.1 it.2 in
@@ -93,7 +107,8 @@ module _ {T U F G : Type 0} {boxes : DomainBoxes F G} (f : Fields T U) (old new 
 
     -- after an answer the subscriber is up to date
     pub question-updated : IsLiveSubscriber old subscriber → (result : Result Bool ConnectionFailure)
-        → ((m : Messages T U) (s : State T U) → Shows old m s → (s' : State T U) × Shows new m s' × IsAnswer environment s subscriber.id result s') → OnOk result (IsUpToDate new subscriber)
+        → ((m : Messages T U) (s : State T U) → Shows old m s → (s' : State T U) × Shows new m s'
+        × IsAnswer environment s subscriber.id result s') → OnOk result (IsUpToDate new subscriber)
     question-updated live result answers =
         let it = always-shown f old sound view in
         let step = answers it.0 it.1 it.2 in
@@ -101,14 +116,17 @@ module _ {T U F G : Type 0} {boxes : DomainBoxes F G} (f : Fields T U) (old new 
 
     -- a receive
     pub reception-left : IsLiveSubscriber old subscriber → (result : ReceiveResult)
-        → ((m : Messages T U) (s : State T U) → Shows old m s → (s' : State T U) × Shows new m s' × Receive environment s subscriber.id s' result) → LeavesButWaiting subscriber old new
+        → ((m : Messages T U) (s : State T U) → Shows old m s → (s' : State T U) × Shows new m s'
+        × Receive environment s subscriber.id s' result) → LeavesButWaiting subscriber old new
     reception-left live result receives =
         let it = always-shown f old sound view in
         let step = receives it.0 it.1 it.2 in
         record {
           stays = receive-stays old new it.0 it.1 it.2 environment subscriber.id result step.0 step.1 step.2 boxed;
-          others = received-others old new it.0 it.0 it.1 step.0 it.2 step.1 environment subscriber (λ n entry at. at) result step.2;
-          no_more = received-no-more old new it.0 it.0 it.1 step.0 it.2 step.1 environment subscriber live result step.2;
+          others = received-others old new it.0 it.0 it.1 step.0 it.2 step.1 environment subscriber
+              (λ n entry at. at) result step.2;
+          no_more =
+              received-no-more old new it.0 it.0 it.1 step.0 it.2 step.1 environment subscriber live result step.2;
           up_to_date = receive-leaves old new it.0 it.0 it.1 step.0 it.2 step.1 environment subscriber result step.2;
           loans_left = receive-left old new it.0 it.0 it.1 step.0 it.2 step.1 environment subscriber.id result step.2;
         }

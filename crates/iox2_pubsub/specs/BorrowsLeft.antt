@@ -22,13 +22,16 @@ module _ {T U F G : Type 0} where
 
   -- Each subscriber has as many borrows left as before.
   abbrev pub BorrowsLeftStay : (old new : Kept T U F G) → Type 0
-  BorrowsLeftStay old new = (subscriber : Subscriber) (n : ℕ) → HasBorrowsLeft old subscriber n → HasBorrowsLeft new subscriber n
+  BorrowsLeftStay old new =
+      (subscriber : Subscriber) (n : ℕ) → HasBorrowsLeft old subscriber n → HasBorrowsLeft new subscriber n
 
   -- The subscriber with this id has one borrow more left than before.
   abbrev pub HasOneMoreBorrowLeft : (id : ℕ) → (old new : Kept T U F G) → Type 0
-  HasOneMoreBorrowLeft id old new = (subscriber : Subscriber) (n : ℕ) → subscriber.id ≡ id → HasBorrowsLeft old subscriber n → HasBorrowsLeft new subscriber (n + 1)
+  HasOneMoreBorrowLeft id old new = (subscriber : Subscriber) (n : ℕ) → subscriber.id ≡ id
+      → HasBorrowsLeft old subscriber n → HasBorrowsLeft new subscriber (n + 1)
 
   -- The subscriber has at most one borrow fewer left than before, and other subscribers have as many.
   pub record TakesOneBorrow (subscriber : Subscriber) (old new : Kept T U F G) : Type 0 where
     pub own : (n : ℕ) → HasBorrowsLeft old subscriber (n + 1) → HasBorrowsLeft new subscriber n
-    pub others : (other : Subscriber) (n : ℕ) → other.id ≢ subscriber.id → HasBorrowsLeft old other n → HasBorrowsLeft new other n
+    pub others : (other : Subscriber) (n : ℕ) → other.id ≢ subscriber.id → HasBorrowsLeft old other n
+        → HasBorrowsLeft new other n

@@ -7,8 +7,8 @@ use Rattle.iox2_machine.specs.machine.State.{State}
 use Rattle.iox2_machine.specs.machine.Waiting.{receives_from}
 use Rattle.iox2_machine.specs.machine.WellFormed.{LeadsTo}
 
--- The publisher p has its end of the mailbox with q, which is open, and has its own end or makes it in its next update. Their
--- channel isn't closed.
+-- The publisher p has its end of the mailbox with q, which is open, and has its own end or makes it in its next update.
+-- Their channel isn't closed.
 pub record Connects {T U : Type 0} (s : State T U) (p q : ℕ) : Type 0 where
   pub publisher : Publisher
   pub stands : s.publishers p ≡ Some publisher

@@ -12,8 +12,8 @@ module _ {T U : Type 0} where
   abbrev pub is_gone : State T U → (p : ℕ) → Bool
   is_gone s p = not (is_present s p)
 
-  -- How many closed publishers the subscriber has a connection with: those that its updates have made expired, and those that still
-  -- stand at an end.
+  -- How many closed publishers the subscriber has a connection with: those that its updates have made expired, and
+  -- those that still stand at an end.
   abbrev pub departed_of : State T U → Subscriber → ℕ
   departed_of s y = length y.expired + length (filter (is_gone s) (occupants y.ends))
 

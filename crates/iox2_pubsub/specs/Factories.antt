@@ -28,8 +28,14 @@ abbrev pub callback_of : {F G P : Type 0} → PublisherFactory F G (Preallocated
 callback_of factory = factory.preallocated.callback
 
 -- The factory, told to ask this.
-abbrev pub with_callback : {F G O P : Type 0} → PublisherFactory F G O → P → PublisherFactory F G (PreallocatedSamplesOverride P)
-with_callback factory callback = record { settings = factory.settings; box = factory.box; degradation_box = factory.degradation_box; preallocated = record { callback = callback } }
+abbrev pub with_callback : {F G O P : Type 0} → PublisherFactory F G O → P
+    → PublisherFactory F G (PreallocatedSamplesOverride P)
+with_callback factory callback = record {
+  settings = factory.settings;
+  box = factory.box;
+  degradation_box = factory.degradation_box;
+  preallocated = record { callback = callback };
+}
 
 -- The settings that a publisher is made with, once that number of slots was asked for, or none.
 abbrev pub with_slots : PublisherSettings → Option ℕ → PublisherSettings
@@ -38,7 +44,8 @@ with_slots settings asked = record settings { asked_slots = asked }
 -- What is asked for, by an override that may answer so: it is given the worst case. If that doesn't fit a machine word
 -- it isn't asked, and no publisher is made.
 abbrev pub AsksForSlots : (answers : ℕ → ℕ → Type 0) → (worst : ℕ) → Option ℕ → Type 0
-AsksForSlots answers worst asked = MatchBool (fits worst) ((slots : ℕ) × answers worst slots × (asked ≡ Some slots)) (asked ≡ None)
+AsksForSlots answers worst asked =
+    MatchBool (fits worst) ((slots : ℕ) × answers worst slots × (asked ≡ Some slots)) (asked ≡ None)
 
 -- An override that may answer so never asks for fewer slots than the worst case.
 abbrev pub AsksForAll : (answers : ℕ → ℕ → Type 0) → (worst : ℕ) → Type 0

@@ -10,13 +10,16 @@ use Rattle.iox2_machine.specs.declared.backpressure.BackpressureStrategy.{Backpr
 use Rattle.iox2_machine.specs.declared.degradation.DegradationAction.{DegradationAction}
 use Rattle.iox2_domain.specs.Handlers.{may_fail, may_fail_update}
 
--- A send may wait for a full receiver: the strategy says so, or a handler that always gives the same answer, or there is a box.
+-- A send may wait for a full receiver: the strategy says so, or a handler that always gives the same answer, or there
+-- is a box.
 abbrev pub may_wait : BackpressureStrategy → Option (Handler BackpressureAction) → Bool
 may_wait strategy None = is_blocking (by_strategy strategy)
 may_wait strategy (Some (machine.Fixed action)) = is_blocking (by_action strategy action)
 may_wait strategy (Some machine.Custom) = true
 
--- No send of a publisher is blocked or failed by a handler: none is blocked now, none fails without a connection, and the service
--- overflows, or else none waits or fails at a full receiver.
-abbrev pub is_never_hindered : (overflow is_blocked : Bool) → BackpressureStrategy → Option (Handler BackpressureAction) → Handler DegradationAction → Bool
-is_never_hindered overflow is_blocked strategy handler degradation = not (is_blocked || may_fail_update degradation) && (overflow || not (may_wait strategy handler || may_fail handler))
+-- No send of a publisher is blocked or failed by a handler: none is blocked now, none fails without a connection, and
+-- the service overflows, or else none waits or fails at a full receiver.
+abbrev pub is_never_hindered : (overflow is_blocked : Bool) → BackpressureStrategy → Option (Handler BackpressureAction)
+    → Handler DegradationAction → Bool
+is_never_hindered overflow is_blocked strategy handler degradation =
+    not (is_blocked || may_fail_update degradation) && (overflow || not (may_wait strategy handler || may_fail handler))

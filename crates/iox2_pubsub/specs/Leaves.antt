@@ -2,7 +2,9 @@
 use Rattle.iox2_domain.specs.Kept.{Kept}
 use Rattle.std.specs.Prelude.{ℕ, ◌≡◌, ◌≢◌, ◌≤◌, true, false}
 use Rattle.iox2_machine.specs.machine.Channel.{Channel, is_closed, is_in_state}
-use Rattle.iox2_pubsub.specs.Live.{AddAtMost, ConnectionsStay, IsConnected, IsUpToDate, Item, No_item, OthersStayUpToDate, OthersWait, RoomStays, Stays, StaysBut, UpToDateStay, WaitingStays, subscriber_port, waiting}
+use Rattle.iox2_pubsub.specs.Live.{AddAtMost, ConnectionsStay, IsConnected, IsUpToDate, Item, No_item}
+use Rattle.iox2_pubsub.specs.Live.{OthersStayUpToDate, OthersWait, RoomStays, Stays, StaysBut, UpToDateStay}
+use Rattle.iox2_pubsub.specs.Live.{WaitingStays, subscriber_port, waiting}
 use Rattle.iox2_pubsub.specs.BorrowsLeft.{BorrowsLeftStay}
 use Rattle.iox2_pubsub.specs.LoansLeft.{LoansLeftStay, TakesOneLeft}
 use Rattle.iox2_pubsub.specs.declared.publisher.Publisher.{Publisher}
@@ -60,18 +62,21 @@ pub record LeavesWithout {T U F G : Type 0} (subscriber : Subscriber) (old new :
   pub none : waiting new subscriber ≡ 0
   pub others : OthersWait subscriber old new
   pub up_to_date : OthersStayUpToDate subscriber old new
-  pub connections : (publisher : ℕ) (other : Subscriber) → other.id ≢ subscriber.id → IsConnected old publisher other → IsConnected new publisher other
+  pub connections : (publisher : ℕ) (other : Subscriber) → other.id ≢ subscriber.id → IsConnected old publisher other
+      → IsConnected new publisher other
   pub room : RoomStays old new
   pub loans_left : LoansLeftStay old new
   pub borrows_left : BorrowsLeftStay old new
 
 -- The call leaves all as it was, except channels: a publisher and a subscriber that were connected are, if their
 -- channel stays open.
-pub record LeavesButChannels {T U F G : Type 0} (StaysOpen : (publisher : ℕ) → Subscriber → Type 0) (old new : Kept T U F G) : Type 0 where
+pub record LeavesButChannels {T U F G : Type 0} (StaysOpen : (publisher : ℕ) → Subscriber → Type 0)
+    (old new : Kept T U F G) : Type 0 where
   pub stays : Stays old new
   pub waits : WaitingStays old new
   pub up_to_date : (subscriber : Subscriber) → IsUpToDate old subscriber → IsUpToDate new subscriber
-  pub connections : (publisher : ℕ) (subscriber : Subscriber) → StaysOpen publisher subscriber → IsConnected old publisher subscriber
+  pub connections : (publisher : ℕ) (subscriber : Subscriber) → StaysOpen publisher subscriber
+      → IsConnected old publisher subscriber
       → IsConnected new publisher subscriber
   pub room : RoomStays old new
   pub loans_left : LoansLeftStay old new
@@ -79,4 +84,5 @@ pub record LeavesButChannels {T U F G : Type 0} (StaysOpen : (publisher : ℕ) �
 
 -- The change closes no channel that is in the state.
 abbrev pub ClosesNone : (expected : ℕ) → (Channel → Channel) → Type 0
-ClosesNone expected change = (channel : Channel) → is_in_state expected channel ≡ true → is_closed channel ≡ false → is_closed (change channel) ≡ false
+ClosesNone expected change = (channel : Channel) → is_in_state expected channel ≡ true → is_closed channel ≡ false
+    → is_closed (change channel) ≡ false

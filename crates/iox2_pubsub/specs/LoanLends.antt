@@ -3,7 +3,8 @@ use Rattle.std.specs.Prelude.{ℕ, List, Option}
 use Rattle.std.specs.Borrow.{Lends, MutBor, Fml, RattleType, Array}
 use Rattle.std.specs.contracts.option.Option.{the_row as option_row}
 use Rattle.iox2_domain.specs.Kept.{Kept}
-use Rattle.iox2_pubsub.specs.ChangedLoans.{with_cell_left, with_payload, with_cells_left, with_payloads, with_user_header_left}
+use Rattle.iox2_pubsub.specs.ChangedLoans.{with_cell_left, with_payload, with_cells_left, with_payloads}
+use Rattle.iox2_pubsub.specs.ChangedLoans.{with_user_header_left}
 use Rattle.iox2_pubsub.specs.contracts.domain.Domain.{the_row}
 
 module _ (T U F G : RattleType) (domain : MutBor (Kept T.Denot U.Denot F.Denot G.Denot)) (number : ℕ) where

@@ -40,11 +40,23 @@ sample_named parts = record { service_id = parts.service_id; port = parts.subscr
 
 -- The publisher's numbers.
 abbrev pub publisher_parts : Publisher → PublisherParts
-publisher_parts it = record { service_id = it.service_id; id = it.id; place = it.place; strategy = it.strategy; initial_max_slice_len = it.initial_max_slice_len }
+publisher_parts it = record {
+  service_id = it.service_id;
+  id = it.id;
+  place = it.place;
+  strategy = it.strategy;
+  initial_max_slice_len = it.initial_max_slice_len;
+}
 
 -- The handle of a publisher that has these numbers.
 abbrev pub publisher_of_parts : PublisherParts → Publisher
-publisher_of_parts parts = record { service_id = parts.service_id; id = parts.id; place = parts.place; strategy = parts.strategy; initial_max_slice_len = parts.initial_max_slice_len }
+publisher_of_parts parts = record {
+  service_id = parts.service_id;
+  id = parts.id;
+  place = parts.place;
+  strategy = parts.strategy;
+  initial_max_slice_len = parts.initial_max_slice_len;
+}
 
 -- The subscriber's numbers.
 abbrev pub subscriber_parts : Subscriber → SubscriberParts
@@ -52,22 +64,44 @@ subscriber_parts it = record { service_id = it.service_id; id = it.id; place = i
 
 -- The handle of a subscriber that has these numbers.
 abbrev pub subscriber_with : SubscriberParts → Subscriber
-subscriber_with parts = record { service_id = parts.service_id; id = parts.id; place = parts.place; buffer_size = parts.buffer_size }
+subscriber_with parts =
+    record { service_id = parts.service_id; id = parts.id; place = parts.place; buffer_size = parts.buffer_size }
 
 -- The numbers of a loan that isn't written.
 abbrev pub unwritten_parts : SampleMutUninit → LoanParts
 unwritten_parts it =
-    record { service_id = it.service_id; publisher = it.loan.publisher; number = it.loan.number; place = it.loan.place; book = it.loan.book; slot = it.loan.slot }
+    record {
+      service_id = it.service_id;
+      publisher = it.loan.publisher;
+      number = it.loan.number;
+      place = it.loan.place;
+      book = it.loan.book;
+      slot = it.loan.slot;
+    }
 
 -- The numbers of a written loan.
 abbrev pub written_parts : SampleMut → LoanParts
 written_parts it =
-    record { service_id = it.service_id; publisher = it.loan.publisher; number = it.loan.number; place = it.loan.place; book = it.loan.book; slot = it.loan.slot }
+    record {
+      service_id = it.service_id;
+      publisher = it.loan.publisher;
+      number = it.loan.number;
+      place = it.loan.place;
+      book = it.loan.book;
+      slot = it.loan.slot;
+    }
 
 -- The numbers of a blocked send.
 abbrev pub blocked_parts : BlockedSend → LoanParts
 blocked_parts it =
-    record { service_id = it.service_id; publisher = it.loan.publisher; number = it.loan.number; place = it.loan.place; book = it.loan.book; slot = it.loan.slot }
+    record {
+      service_id = it.service_id;
+      publisher = it.loan.publisher;
+      number = it.loan.number;
+      place = it.loan.place;
+      book = it.loan.book;
+      slot = it.loan.slot;
+    }
 
 -- The sample's numbers.
 abbrev pub sample_parts : Sample → SampleParts
@@ -86,7 +120,8 @@ sample_parts it =
 
 -- The publisher that lent the loan with these numbers wasn't closed, and stands at the place that they name.
 unfoldable pub LenderIsPlaced : {T U F G : Type 0} → Kept T U F G → LoanParts → Type 0
-LenderIsPlaced domain parts = (x : MachinePublisher) × ((state_of domain).publishers parts.publisher ≡ Some x) × (x.place ≡ parts.place)
+LenderIsPlaced domain parts =
+    (x : MachinePublisher) × ((state_of domain).publishers parts.publisher ≡ Some x) × (x.place ≡ parts.place)
 
 -- ---- marks
 
@@ -97,4 +132,5 @@ written_mark _ = false
 
 -- The publisher's loan n is out, and is written as this says.
 abbrev pub HoldsMarked : {T U : Type 0} → State T U → (publisher n : ℕ) → (is_written : Bool) → Type 0
-HoldsMarked {T} {U} s publisher n is_written = (l : Loan T U) × (s.loans n ≡ Some l) × (l.publisher ≡ publisher) × (l.is_written ≡ is_written)
+HoldsMarked {T} {U} s publisher n is_written =
+    (l : Loan T U) × (s.loans n ≡ Some l) × (l.publisher ≡ publisher) × (l.is_written ≡ is_written)

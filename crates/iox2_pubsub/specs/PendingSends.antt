@@ -7,7 +7,8 @@ use Rattle.iox2_machine.specs.machine.Records.{Publisher, BlockedSend}
 use Rattle.iox2_machine.specs.machine.State.{State}
 
 module _ {T U : Type 0} where
-  -- The publisher p waits with the message n, which it sends into channel 0, and of the ends that remain one leads to q.
+  -- The publisher p waits with the message n, which it sends into channel 0, and of the ends that remain one leads to
+  -- q.
   pub record GoesTo (s : State T U) (p n q : ℕ) : Type 0 where
     pub publisher : Publisher
     pub blocked : BlockedSend
@@ -18,7 +19,8 @@ module _ {T U : Type 0} where
     pub some : 0 < length blocked.ends
     pub ahead : contains (occupants blocked.ends) q ≡ true
 
-  -- The publisher p waits with the message n, which it sends into channel 0, and of the ends that remain none leads to q.
+  -- The publisher p waits with the message n, which it sends into channel 0, and of the ends that remain none leads to
+  -- q.
   pub record PassesBy (s : State T U) (p n q : ℕ) : Type 0 where
     pub publisher : Publisher
     pub blocked : BlockedSend

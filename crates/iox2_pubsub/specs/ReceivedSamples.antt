@@ -11,7 +11,9 @@ use Rattle.iox2_machine.specs.declared.errors.ReceiveError.TheVariants.{ExceedsM
 use Rattle.iox2_domain.specs.Kept.{Kept}
 use Rattle.iox2_pubsub.specs.BorrowsLeft.{BorrowsLeftStay, HasBorrowsLeft, TakesOneBorrow}
 use Rattle.iox2_pubsub.specs.Leaves.{LeavesButWaiting}
-use Rattle.iox2_pubsub.specs.Live.{AreAllSlices, IsConsistent, IsFromOrigin, IsLiveSample, IsNewIn, IsUpToDate, KeepsAll, LeavesLater, LeavesOthers, TakesFirst, TakesOldest, WaitingStays, payloads, received_sample, sample_key, waiting}
+use Rattle.iox2_pubsub.specs.Live.{AreAllSlices, IsConsistent, IsFromOrigin, IsLiveSample, IsNewIn, IsUpToDate}
+use Rattle.iox2_pubsub.specs.Live.{KeepsAll, LeavesLater, LeavesOthers, TakesFirst, TakesOldest, WaitingStays, payloads}
+use Rattle.iox2_pubsub.specs.Live.{received_sample, sample_key, waiting}
 use Rattle.iox2_pubsub.specs.MachineSteps.{TakesStep}
 use Rattle.iox2_pubsub.specs.Slices.{SampleHasValues}
 use Rattle.iox2_pubsub.specs.Sample.{Sample}
@@ -29,28 +31,33 @@ OnNoSample (Ok None) then = then
 OnNoSample (Ok (Some sample)) then = ⊤
 OnNoSample (Err e) then = then
 
--- The subscriber is given the sample: it is borrowed from its origin, was the oldest that waited from there, reads as that did, and
--- is none that was there before.
-pub record IsReceived {T U F G : Type 0} (receiver : Subscriber) (sample : Sample) (old new : Kept T U F G) : Type 0 where
+-- The subscriber is given the sample: it is borrowed from its origin, was the oldest that waited from there, reads as
+-- that did, and is none that was there before.
+pub record IsReceived {T U F G : Type 0} (receiver : Subscriber) (sample : Sample)
+    (old new : Kept T U F G) : Type 0 where
   pub live : IsLiveSample new sample
   pub is_new : IsNewIn old (received_sample sample)
   pub origin : IsFromOrigin new sample
   pub subscriber : sample.sample.subscriber ≡ receiver.id
   pub fewer : waiting new receiver < waiting old receiver
   pub one_fewer : KeepsAll old receiver → suc (waiting new receiver) ≡ waiting old receiver
-  pub reads : (values : List T) → AreAllSlices (payloads old receiver) values → SampleHasValues new (sample_key sample) values
+  pub reads : (values : List T) → AreAllSlices (payloads old receiver) values
+      → SampleHasValues new (sample_key sample) values
   pub only : (values : List T) → payloads old receiver ≡ values ∷ [] → SampleHasValues new (sample_key sample) values
   pub oldest : TakesOldest receiver sample old new
   pub first : TakesFirst receiver sample old new
   pub later : LeavesLater receiver old new
   pub rest : KeepsAll old receiver → LeavesOthers receiver sample old new
 
--- The subscriber receives as the machine does, where handlers answer so, with this result: it is given a sample, or nothing waits for
--- it, or there is an error; and without an error it is up to date.
--- If it is given none, what waits is as it was. While it has borrows left, no limit refuses it one, and if it was up to date nothing does.
-pub record ReceivesSample {T U F G : Type 0} (environment : Environment) (receiver : Subscriber) (result : Result (Option Sample) ReceiveError) (old new : Kept T U F G) : Type 0 where
+-- The subscriber receives as the machine does, where handlers answer so, with this result: it is given a sample, or
+-- nothing waits for it, or there is an error; and without an error it is up to date.
+-- If it is given none, what waits is as it was. While it has borrows left, no limit refuses it one, and if it was up to
+-- date nothing does.
+pub record ReceivesSample {T U F G : Type 0} (environment : Environment) (receiver : Subscriber)
+    (result : Result (Option Sample) ReceiveError) (old new : Kept T U F G) : Type 0 where
   pub consistent : IsConsistent old
-  pub receives : TakesStep old new (λ before after. Receive environment before receiver.id after (received_result result))
+  pub receives : TakesStep old new
+      (λ before after. Receive environment before receiver.id after (received_result result))
   pub received : IfOk result (λ sample. IfSome sample (λ it. IsReceived receiver it old new))
   pub none : IfOk result (λ sample. IfNone sample (waiting new receiver ≡ 0))
   pub nothing : KeepsAll old receiver → IfOk result (λ sample. IfNone sample (waiting old receiver ≡ 0))

@@ -43,14 +43,16 @@ module _ {T : Type 0} where
   abbrev pub TakesFrom : List (Share T) → (publisher : ℕ) → List T → List (Share T) → Type 0
   TakesFrom [] publisher values left = ⊥
   TakesFrom (share ∷ shares) publisher values left =
-      ((rest : List (List T)) × (share.publisher ≡ publisher) × (share.payloads ≡ values ∷ rest) × (left ≡ share_of publisher rest ∷ shares))
+      ((rest : List (List T)) × (share.publisher ≡ publisher) × (share.payloads ≡ values ∷ rest)
+      × (left ≡ share_of publisher rest ∷ shares))
       ⊎ ((others : List (Share T)) × TakesFrom shares publisher values others × (left ≡ share ∷ others))
 
 module _ {T U F G : Type 0} (domain : Kept T U F G) where
   -- Of each of these publishers that share waits for the subscriber.
   abbrev pub AreShares : Subscriber → List (Share T) → Type 0
   AreShares subscriber [] = Unit {0}
-  AreShares subscriber (share ∷ shares) = (payloads_from domain share.publisher subscriber ≡ share.payloads) × AreShares subscriber shares
+  AreShares subscriber (share ∷ shares) =
+      (payloads_from domain share.publisher subscriber ≡ share.payloads) × AreShares subscriber shares
 
   -- All that waits for the subscriber are these shares, each of another publisher.
   pub record AllFromEach (subscriber : Subscriber) (shares : List (Share T)) : Type 0 where

@@ -28,4 +28,5 @@ module _ {T U F G : Type 0} (domain : Kept T U F G) where
 
   -- The sample with this key has these values.
   unfoldable pub SampleHasValues : Key → List T → Type 0
-  SampleHasValues key values = (entry : Entry T U) × (entries_of domain key.message ≡ Some entry) × (entry.values ≡ values)
+  SampleHasValues key values =
+      (entry : Entry T U) × (entries_of domain key.message ≡ Some entry) × (entry.values ≡ values)

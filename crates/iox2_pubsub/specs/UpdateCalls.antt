@@ -16,7 +16,8 @@ returned_failure (Err failure) = Some failure
 
 module _ {T U F G : Type 0} (old new : Kept T U F G) where
   -- A publisher that is ready stays so if everything does.
-  pub ready_stays : (publisher : Publisher) → Stays old new → IsReadyPublisher old publisher → IsReadyPublisher new publisher
+  pub ready_stays : (publisher : Publisher) → Stays old new → IsReadyPublisher old publisher
+      → IsReadyPublisher new publisher
   ready_stays publisher stays ready = record {
     there = stays.publishers (publisher_key publisher) ready.there tt;
     placed = stays.placed_publishers publisher ready.placed;
@@ -24,7 +25,8 @@ module _ {T U F G : Type 0} (old new : Kept T U F G) where
   }
 
   -- A subscriber that is live stays so if everything does.
-  pub subscriber_stays : (subscriber : Subscriber) → Stays old new → IsLiveSubscriber old subscriber → IsLiveSubscriber new subscriber
+  pub subscriber_stays : (subscriber : Subscriber) → Stays old new → IsLiveSubscriber old subscriber
+      → IsLiveSubscriber new subscriber
   subscriber_stays subscriber stays live = record {
     there = stays.subscribers (subscriber_key subscriber) live.there tt;
     placed = stays.placed_subscribers subscriber live.placed;

@@ -31,16 +31,23 @@ use Rattle.iox2_runs.proofs.TableSteps.{Nobody, ports-keep, later_but, no_next, 
 
 -- ---- what the command comes to
 
-module _ {T U : Type 0} (environment : Environment) (defaults : Defaults T U) (Shown : Messages T U → State T U → Type 0) (m : Messages T U) (s : State T U) (handles : List Handle)
-    (events : List (Event T U)) (table : List TableEntry) (w : IsTable s handles events table) (default_value : T) (default_header : U)
-    (is_default_value : defaults.IsDefaultValue default_value) (is_default_header : defaults.IsDefaultHeader default_header) where
-  discard_skipped : (of : ℕ) → Lacks is_loan_entry table of → Shown m s → Comes environment defaults Shown m s handles events (Discard of) Skipped (table ++ No_entry ∷ [])
+module _ {T U : Type 0} (environment : Environment) (defaults : Defaults T U)
+    (Shown : Messages T U → State T U → Type 0) (m : Messages T U) (s : State T U) (handles : List Handle)
+    (events : List (Event T U)) (table : List TableEntry) (w : IsTable s handles events table) (default_value : T)
+    (default_header : U)
+    (is_default_value : defaults.IsDefaultValue default_value)
+    (is_default_header : defaults.IsDefaultHeader default_header) where
+  discard_skipped : (of : ℕ) → Lacks is_loan_entry table of → Shown m s
+      → Comes environment defaults Shown m s handles events (Discard of) Skipped (table ++ No_entry ∷ [])
   discard_skipped of absent shown =
-      skip_comes environment defaults Shown m s handles events table w default_value default_header is_default_value is_default_header (Discard of)
+      skip_comes environment defaults Shown m s handles events table w default_value default_header is_default_value
+      is_default_header (Discard of)
       (at_none _ _ _ (lacks_loan s handles events table w of absent) refl) shown
 
-  discard_comes : (of n : ℕ) (l : Loan T U) → loan_at s handles of ≡ Some (n, l) → s.loans n ≡ Some l → slice_get handles of ≡ Some (Loan_handle n) → Shown m (loan_discarded s n l)
-      → Comes environment defaults Shown m s handles events (Discard of) Done (slice_set table of No_entry ++ No_entry ∷ [])
+  discard_comes : (of n : ℕ) (l : Loan T U) → loan_at s handles of ≡ Some (n, l) → s.loans n ≡ Some l
+      → slice_get handles of ≡ Some (Loan_handle n) → Shown m (loan_discarded s n l)
+      → Comes environment defaults Shown m s handles events (Discard of) Done
+      (slice_set table of No_entry ++ No_entry ∷ [])
   discard_comes of n l found out named shown =
       let s' : State T U = loan_discarded s n l in
       let stay : PortsStay s s' = loan_discarded_stays s n l in record {
@@ -52,9 +59,13 @@ module _ {T U : Type 0} (environment : Environment) (defaults : Defaults T U) (S
         step = at_some _ _ _ (n, l) found refl;
         replied = refl;
         shown = shown;
-        follows = λ once. table_next s s' handles events table w No_handle No_event No_entry (slice_set table of No_entry)
-            (later_but s s' n l out (loan_discarded_comes s n l).next_port (le_refl s.next_message) (λ k low other. put_at-other s.loans n None k (ne_eqb k n other))) (set_length table of No_entry)
-            (others_still s s' handles events table w of (Loan_handle n) No_entry (ports-keep (Loan_handle n) No_handle s s' stay.remain (loan_discarded_comes s n l) (loan_discarded_waits Nobody s n l)) named (put_at-same s.loans n None)
+        follows =
+            λ once. table_next s s' handles events table w No_handle No_event No_entry (slice_set table of No_entry)
+            (later_but s s' n l out (loan_discarded_comes s n l).next_port (le_refl s.next_message)
+            (λ k low other. put_at-other s.loans n None k (ne_eqb k n other))) (set_length table of No_entry)
+            (others_still s s' handles events table w of (Loan_handle n) No_entry
+            (ports-keep (Loan_handle n) No_handle s s' stay.remain (loan_discarded_comes s n l)
+            (loan_discarded_waits Nobody s n l)) named (put_at-same s.loans n None)
             (λ k low other. put_at-other s.loans n None k (ne_eqb k n (λ e. other (ap Loan_handle (sym e)))))
             (λ i p q k _ _. same_borrowed s s' stay p q k))
             tt (no_next s s' _) once;
@@ -62,43 +73,56 @@ module _ {T U : Type 0} (environment : Environment) (defaults : Defaults T U) (S
 
 -- ---- what the function of the command ensures
 
-module _ {T U F G : Type 0} (environment : Environment) (defaults : Defaults T U) (old new : Domain T U F G) (table table' : List Made) (of : ℕ) where
+module _ {T U F G : Type 0} (environment : Environment) (defaults : Defaults T U) (old new : Domain T U F G)
+    (table table' : List Made) (of : ℕ) where
   -- there is no such loan
-  pub discard_passed : is_loan_entry (entry_for (slice_index_or table of Nothing)) ≡ false → Carries environment defaults old old table (Discard of) Skipped table Nothing
+  pub discard_passed : is_loan_entry (entry_for (slice_index_or table of Nothing)) ≡ false
+      → Carries environment defaults old old table (Discard of) Skipped table Nothing
   discard_passed other = λ m s handles events shown w default_value default_header is_value is_header.
-      discard_skipped environment defaults (Shows old) m s handles events (map entry_for table) w default_value default_header is_value is_header of
+      discard_skipped environment defaults (Shows old) m s handles events
+      (map entry_for table) w default_value default_header is_value is_header of
       (lacks is_loan_entry refl table of other) shown
 
   -- what the loan n comes to
   abbrev Discards : (n : ℕ) → Type 0
-  Discards n = (m : Messages T U) (s : State T U) (l : Loan T U) → Shows old m s → s.loans n ≡ Some l → Shows new m (loan_discarded s n l)
+  Discards n = (m : Messages T U) (s : State T U) (l : Loan T U) → Shows old m s → s.loans n ≡ Some l
+      → Shows new m (loan_discarded s n l)
 
   -- where a loan stands
   carried : (n : ℕ) → Discards n → table' ≡ slice_set table of Nothing
-      → ((s : State T U) (handles : List Handle) (events : List (Event T U)) → IsTable s handles events (map entry_for table)
-      → (l : Loan T U) × (loan_at s handles of ≡ Some (n, l)) × (s.loans n ≡ Some l) × (slice_get handles of ≡ Some (Loan_handle n)))
+      → ((s : State T U) (handles : List Handle) (events : List (Event T U))
+      → IsTable s handles events (map entry_for table)
+      → (l : Loan T U) × (loan_at s handles of ≡ Some (n, l)) × (s.loans n ≡ Some l)
+      × (slice_get handles of ≡ Some (Loan_handle n)))
       → Carries environment defaults old new table (Discard of) Done table' Nothing
   carried n discards is names = λ m s handles events shown w default_value default_header is_value is_header.
       let named = names s handles events w in
-      let after : map entry_for table' ≡ slice_set (map entry_for table) of No_entry = ap (λ (t : List Made). map entry_for t) is ∙ entries-set table of Nothing in
-      subst (λ (ks : List TableEntry). Comes environment defaults (Shows new) m s handles events (Discard of) Done (ks ++ No_entry ∷ [])) (sym after)
-      (discard_comes environment defaults (Shows new) m s handles events (map entry_for table) w default_value default_header is_value is_header of n named.0 named.1 named.2 named.3
+      let after : map entry_for table' ≡ slice_set (map entry_for table) of No_entry =
+      ap (λ (t : List Made). map entry_for t) is ∙ entries-set table of Nothing in
+      subst (λ (ks : List TableEntry).
+      Comes environment defaults (Shows new) m s handles events (Discard of) Done (ks ++ No_entry ∷ [])) (sym after)
+      (discard_comes environment defaults (Shows new) m s handles events
+      (map entry_for table) w default_value default_header is_value is_header of n named.0 named.1 named.2 named.3
       (discards m s named.0 shown named.2))
 
   -- an unwritten loan
-  pub discard_unwritten : (h : SampleMutUninit) → slice_index_or table of Nothing ≡ Unwritten h → Discards h.loan.number → table' ≡ slice_set table of Nothing
+  pub discard_unwritten : (h : SampleMutUninit) → slice_index_or table of Nothing ≡ Unwritten h → Discards h.loan.number
+      → table' ≡ slice_set table of Nothing
       → Carries environment defaults old new table (Discard of) Done table' Nothing
   discard_unwritten h at discards is = carried h.loan.number discards is (λ s handles events w.
       let stand = entry-stands table of (Unwritten h) at (λ e. let clash : Unwritten h ≡ Nothing = e in cc) in
-      let found = has_unwritten s handles events (map entry_for table) w of h.service_id h.loan.publisher h.loan.number stand in
+      let found =
+      has_unwritten s handles events (map entry_for table) w of h.service_id h.loan.publisher h.loan.number stand in
       let v = handle_of s handles events (map entry_for table) w of (entry_for (Unwritten h)) stand in
       (found.0, found.2, found.3, v.1 ∙ ap Some (v.2).1))
 
   -- a written loan
-  pub discard_written : (h : SampleMut) → slice_index_or table of Nothing ≡ Written h → Discards h.loan.number → table' ≡ slice_set table of Nothing
+  pub discard_written : (h : SampleMut) → slice_index_or table of Nothing ≡ Written h → Discards h.loan.number
+      → table' ≡ slice_set table of Nothing
       → Carries environment defaults old new table (Discard of) Done table' Nothing
   discard_written h at discards is = carried h.loan.number discards is (λ s handles events w.
       let stand = entry-stands table of (Written h) at (λ e. let clash : Written h ≡ Nothing = e in cc) in
-      let found = has_written s handles events (map entry_for table) w of h.service_id h.loan.publisher h.loan.number stand in
+      let found =
+      has_written s handles events (map entry_for table) w of h.service_id h.loan.publisher h.loan.number stand in
       let v = handle_of s handles events (map entry_for table) w of (entry_for (Written h)) stand in
       (found.0, found.2, found.3, v.1 ∙ ap Some (v.2).1))

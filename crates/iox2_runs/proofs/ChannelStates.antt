@@ -17,7 +17,8 @@ module _ {T U A : Type 0} (s : State T U) (channel : ℕ) (named : Option A) whe
 
   -- and not where they lack it
   pub without_channel : (channel < channel_count s.config → ⊥) → if_channel s channel named ≡ None
-  without_channel missing = ap (λ b. cond b named None) (le-ltb channel (channel_count s.config) (omega (arith, missing)))
+  without_channel missing =
+      ap (λ b. cond b named None) (le-ltb channel (channel_count s.config) (omega (arith, missing)))
 
   -- where nothing is named, nothing is named with a channel
   pub none_with_channel : named ≡ None → if_channel s channel named ≡ None
@@ -35,14 +36,17 @@ module _ {T U : Type 0} (s : State T U) (channels : ℕ → ℕ → ℕ → Chan
   pub channels_stay : PortsStay s after
   channels_stay =
       let same : PortsStay s s = ports_stay_themselves s in record {
-        remain = record { config = refl; publishers = (same.remain).publishers; subscribers = (same.remain).subscribers };
+        remain =
+            record { config = refl; publishers = (same.remain).publishers; subscribers = (same.remain).subscribers };
         borrowed = same.borrowed;
       }
 
   pub channels_come : PortsCome s after
   channels_come =
-      let same : PortsCome s s = ports_come_themselves s in record { next_port = same.next_port; publishers = same.publishers; subscribers = same.subscribers }
+      let same : PortsCome s s = ports_come_themselves s in
+      record { next_port = same.next_port; publishers = same.publishers; subscribers = same.subscribers }
 
   pub channels_wait : (Spared : ℕ → Type 0) → Waits Spared s after
   channels_wait Spared =
-      let same : Waits Spared s s = waits_itself Spared s in record { next_port = same.next_port; publishers = same.publishers; subscribers = same.subscribers }
+      let same : Waits Spared s s = waits_itself Spared s in
+      record { next_port = same.next_port; publishers = same.publishers; subscribers = same.subscribers }

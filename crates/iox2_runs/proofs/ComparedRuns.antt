@@ -14,7 +14,9 @@ use Rattle.iox2_runs.specs.Compared.{AreCompared}
 use Rattle.iox2_runs.specs.DomainRuns.{RunsOnDomain}
 
 module _ {T U : Type 0} where
-  pub compared : {F G : Type 0} (default_value : T) (default_header : U) (c : ServiceConfig) (commands reduced : List (Command T U)) (new : Kept T U F G) (replies : List (Reply T U)) (new' : Kept T U F G) (replies' : List (Reply T U))
+  pub compared : {F G : Type 0} (default_value : T) (default_header : U) (c : ServiceConfig)
+      (commands reduced : List (Command T U)) (new : Kept T U F G) (replies : List (Reply T U)) (new' : Kept T U F G)
+      (replies' : List (Reply T U))
       → RunsOnDomain (only_defaults default_value default_header) new no_messages (fresh c) commands replies
       → RunsOnDomain (only_defaults default_value default_header) new' no_messages (fresh c) reduced replies'
       → AreCompared default_value default_header c commands reduced new replies new' replies'
@@ -22,14 +24,17 @@ module _ {T U : Type 0} where
     first = first;
     second = second;
     isolated = λ position q tell tell' omits independent met met' made same.
-        isolated_without_refusals default_value default_header c position q commands reduced [] replies replies' first.events second.events first.messages second.messages
+        isolated_without_refusals default_value default_header c position q commands reduced [] replies replies'
+        first.events second.events first.messages second.messages
         first.state second.state first.handles second.handles tell tell'
         (subst (MetNoRefusal c commands replies) (sym (ap (λ (z : State T U). z.warnings) (first.shown).state)) met)
         (subst (MetNoRefusal c reduced replies') (sym (ap (λ (z : State T U). z.warnings) (second.shown).state)) met')
-        (subst (λ (whole : List (Command T U)). OmitsOthersFrom position whole commands reduced) (sym (append-nil commands)) omits)
+        (subst (λ (whole : List (Command T U)). OmitsOthersFrom position whole commands reduced)
+        (sym (append-nil commands)) omits)
         independent first.run second.run made same;
     throughout = λ position q n tell tell' omits independent met met' made same x y.
-        views_without_refusals default_value default_header c position q n commands reduced replies replies' first.events second.events first.messages second.messages
+        views_without_refusals default_value default_header c position q n commands reduced replies replies'
+        first.events second.events first.messages second.messages
         first.state second.state tell tell'
         (subst (MetNoRefusal c commands replies) (sym (ap (λ (z : State T U). z.warnings) (first.shown).state)) met)
         (subst (MetNoRefusal c reduced replies') (sym (ap (λ (z : State T U). z.warnings) (second.shown).state)) met')

@@ -9,8 +9,11 @@ use Rattle.iox2_machine.specs.declared.key.Key.{Key}
 use Rattle.iox2_domain.specs.Kept.{Kept as Domain, state_of}
 use Rattle.iox2_domain.specs.Shows.{Shows}
 use Rattle.iox2_machine.specs.machine.Mailbox.{is_borrowed}
-use Rattle.iox2_pubsub.specs.Live.{IsPublisherKey, IsReadyPublisher, IsLiveSubscriber, IsUnblocked, IsUnwritten, IsWritten, IsBlockedSend, IsLiveSample, publisher_key, blocked_key, IsPlacedPublisher}
-use Rattle.iox2_pubsub.proofs.LiveParts.{publisher-live, unblocked-free, unblocked-parts, blocked-live, subscriber-live, unwritten-live, written-live, sample-live}
+use Rattle.iox2_pubsub.specs.Live.{IsPublisherKey, IsReadyPublisher, IsLiveSubscriber, IsUnblocked, IsUnwritten}
+use Rattle.iox2_pubsub.specs.Live.{IsWritten, IsBlockedSend, IsLiveSample, publisher_key, blocked_key}
+use Rattle.iox2_pubsub.specs.Live.{IsPlacedPublisher}
+use Rattle.iox2_pubsub.proofs.LiveParts.{publisher-live, unblocked-free, unblocked-parts, blocked-live, subscriber-live}
+use Rattle.iox2_pubsub.proofs.LiveParts.{unwritten-live, written-live, sample-live}
 use Rattle.iox2_pubsub.specs.declared.blocked_send.BlockedSend.{BlockedSend as BlockedHandle}
 use Rattle.iox2_pubsub.specs.declared.publisher.Publisher.{Publisher as PublisherHandle}
 use Rattle.iox2_pubsub.specs.declared.subscriber.Subscriber.{Subscriber as SubscriberHandle}
@@ -23,7 +26,9 @@ use Rattle.iox2_runs.specs.Carries.{entry_for}
 use Rattle.iox2_runs.specs.Turns.{IsLiveEntry}
 use Rattle.iox2_runs.specs.Placed.{IsPlacedMade}
 use Rattle.iox2_runs.specs.declared.runs.made.Made.{Made}
-use Rattle.iox2_runs.specs.declared.runs.made.Made.TheVariants.{Nothing, Publisher as MadePublisher, Subscriber as MadeSubscriber, Unwritten, Written, Blocked, Sample as MadeSample}
+use Rattle.iox2_runs.specs.declared.runs.made.Made.TheVariants.{Nothing, Publisher as MadePublisher}
+use Rattle.iox2_runs.specs.declared.runs.made.Made.TheVariants.{Subscriber as MadeSubscriber, Unwritten, Written}
+use Rattle.iox2_runs.specs.declared.runs.made.Made.TheVariants.{Blocked, Sample as MadeSample}
 use Rattle.iox2_runs.proofs.Services.{cells-listed}
 use Rattle.iox2_runs.proofs.TableLooks.{handle_of}
 use Rattle.iox2_runs.proofs.TableEntries.{entry-stands}
@@ -31,20 +36,25 @@ use Rattle.iox2_runs.proofs.TableEntries.{entry-stands}
 module _ {T U F G : Type 0} (domain : Domain T U F G) (key : Key) where
   -- who is free in the domain is so in each state that it shows
   pub shown_free : IsUnblocked domain key → (m : Messages T U) (s : State T U) → Shows domain m s → IsFree s key.port
-  shown_free free m s shown = subst (λ (t : State T U). IsFree t key.port) (sym shown.state) (unblocked-parts domain key free).1
+  shown_free free m s shown =
+      subst (λ (t : State T U). IsFree t key.port) (sym shown.state) (unblocked-parts domain key free).1
 
   -- and who waits waits there
-  pub shown_waits : key.port < (state_of domain).next_port → (answer : Bool) → ((answer ≡ false) ↔ IsUnblocked domain key) → answer ≡ true
+  pub shown_waits : key.port < (state_of domain).next_port → (answer : Bool)
+      → ((answer ≡ false) ↔ IsUnblocked domain key) → answer ≡ true
       → (m : Messages T U) (s : State T U) → Shows domain m s → IsFree s key.port → ⊥
   shown_waits low answer tells is m s shown free =
-      true≢false (sym is ∙ tells.1 (unblocked-free domain key (low, subst (λ (t : State T U). IsFree t key.port) shown.state free)))
+      true≢false (sym is
+      ∙ tells.1 (unblocked-free domain key (low, subst (λ (t : State T U). IsFree t key.port) shown.state free)))
 
 module _ {T U F G : Type 0} (domain : Domain T U F G) (held : Made) (keeps : IsLiveEntry domain held) where
   -- it is the entry of some handle, in the state that the domain keeps
-  has_entry : (made : Made) → held ≡ made → (made ≡ Nothing → ⊥) → (h : Handle) × IsEntryOf (state_of domain) h (entry_for made)
+  has_entry : (made : Made) → held ≡ made → (made ≡ Nothing → ⊥)
+      → (h : Handle) × IsEntryOf (state_of domain) h (entry_for made)
   has_entry made is some =
       let live = keeps.live in
-      let v = handle_of live.1 live.2 live.3 (map entry_for keeps.table) live.5 keeps.of (entry_for made) (entry-stands keeps.table keeps.of made (keeps.stands ∙ is) some) in
+      let v = handle_of live.1 live.2 live.3 (map entry_for keeps.table) live.5 keeps.of (entry_for made)
+      (entry-stands keeps.table keeps.of made (keeps.stands ∙ is) some) in
       (v.0, subst (λ (s : State T U). IsEntryOf s v.0 (entry_for made)) (live.4).state v.2)
 
   pub live_publisher : (h : PublisherHandle) → held ≡ MadePublisher h → IsPublisherKey domain (publisher_key h)
@@ -67,17 +77,22 @@ module _ {T U F G : Type 0} (domain : Domain T U F G) (held : Made) (keeps : IsL
   placed_publisher h is = subst (IsPlacedMade domain) (keeps.stands ∙ is) (((keeps.live).6).ports keeps.of)
 
   -- where no send of it is blocked it is ready
-  pub ready_publisher : (h : PublisherHandle) → held ≡ MadePublisher h → IsUnblocked domain (publisher_key h) → IsReadyPublisher domain h
+  pub ready_publisher : (h : PublisherHandle) → held ≡ MadePublisher h → IsUnblocked domain (publisher_key h)
+      → IsReadyPublisher domain h
   ready_publisher h is free = record { there = live_publisher h is; placed = placed_publisher h is; unblocked = free }
 
   pub live_subscriber : (h : SubscriberHandle) → held ≡ MadeSubscriber h → IsLiveSubscriber domain h
   live_subscriber h is =
       let v = (has_entry (MadeSubscriber h) is (λ e. let clash : MadeSubscriber h ≡ Nothing = e in cc)).1 in
-      record { there = subscriber-live domain _ (refl, v.0, (v.2, v.3, v.4)); placed = subst (IsPlacedMade domain) (keeps.stands ∙ is) (((keeps.live).6).ports keeps.of) }
+      record {
+        there = subscriber-live domain _ (refl, v.0, (v.2, v.3, v.4));
+        placed = subst (IsPlacedMade domain) (keeps.stands ∙ is) (((keeps.live).6).ports keeps.of);
+      }
 
   -- nor does one for it
   pub unboxed_subscriber : (h : SubscriberHandle) → held ≡ MadeSubscriber h → HasNoReceiverBox (state_of domain) h.id
-  unboxed_subscriber h is = ((has_entry (MadeSubscriber h) is (λ e. let clash : MadeSubscriber h ≡ Nothing = e in cc)).1).5
+  unboxed_subscriber h is =
+      ((has_entry (MadeSubscriber h) is (λ e. let clash : MadeSubscriber h ≡ Nothing = e in cc)).1).5
 
   pub placed_unwritten : (h : SampleMutUninit) → held ≡ Unwritten h → IsPlacedMade domain (Unwritten h)
   placed_unwritten h is = subst (IsPlacedMade domain) (keeps.stands ∙ is) (((keeps.live).6).ports keeps.of)
@@ -88,13 +103,15 @@ module _ {T U F G : Type 0} (domain : Domain T U F G) (held : Made) (keeps : IsL
       unwritten-live domain h v.0 (v.2).0 (placed_unwritten h is).0
 
   -- if it isn't a single value its cells are handed out
-  pub listed : (h : SampleMutUninit) → held ≡ Unwritten h → is_single_valued domain.config ≡ false → (domain.config).lists_cells ≡ true
+  pub listed : (h : SampleMutUninit) → held ≡ Unwritten h → is_single_valued domain.config ≡ false
+      → (domain.config).lists_cells ≡ true
   listed h is several = cells-listed domain.config (placed_unwritten h is).1 ((keeps.live).6).cells several
 
   pub live_written : (h : SampleMut) → held ≡ Written h → IsWritten domain h
   live_written h is =
       let v = (has_entry (Written h) is (λ e. let clash : Written h ≡ Nothing = e in cc)).1 in
-      written-live domain h v.0 (v.2).0 (subst (IsPlacedMade domain) (keeps.stands ∙ is) (((keeps.live).6).ports keeps.of))
+      written-live domain h v.0 (v.2).0
+      (subst (IsPlacedMade domain) (keeps.stands ∙ is) (((keeps.live).6).ports keeps.of))
 
   -- the id of its publisher was given out
   pub known_lender : (h : SampleMut) → held ≡ Written h → h.loan.publisher < (state_of domain).next_port
@@ -110,8 +127,12 @@ module _ {T U F G : Type 0} (domain : Domain T U F G) (held : Made) (keeps : IsL
   pub live_sample : (h : SampleHandle) → held ≡ MadeSample h → IsLiveSample domain h
   live_sample h is =
       let v = (has_entry (MadeSample h) is (λ e. let clash : MadeSample h ≡ Nothing = e in cc)).1 in
-      record { there = sample-live domain _ (v.0, (h.origin, v.2)); placed = (subst (IsPlacedMade domain) (keeps.stands ∙ is) (((keeps.live).6).ports keeps.of)) }
+      record {
+        there = sample-live domain _ (v.0, (h.origin, v.2));
+        placed = (subst (IsPlacedMade domain) (keeps.stands ∙ is) (((keeps.live).6).ports keeps.of));
+      }
 
   -- its message is borrowed from its publisher
-  pub borrowed_there : (h : SampleHandle) → held ≡ MadeSample h → is_borrowed h.sample.number ((state_of domain).mailboxes h.origin h.sample.subscriber) ≡ true
+  pub borrowed_there : (h : SampleHandle) → held ≡ MadeSample h
+      → is_borrowed h.sample.number ((state_of domain).mailboxes h.origin h.sample.subscriber) ≡ true
   borrowed_there h is = ((has_entry (MadeSample h) is (λ e. let clash : MadeSample h ≡ Nothing = e in cc)).1).2

@@ -81,14 +81,18 @@ slices-parts c slices =
     by Dynamic false e = absurd cc
 
 -- where none of the cells that commands need is lacking, those of slices of one unit an element are handed out
-pub cells-listed : (c : ServiceConfig) → c.units_per_element ≡ 1 → lacks_cells c ≡ false → is_single_valued c ≡ false → c.lists_cells ≡ true
-cells-listed c one has several = by c.variant (eqb c.units_per_element 1) c.lists_cells (ap (λ (units : ℕ). eqb units 1) one) has several where
-  by : (v : TypeVariant) (single lists : Bool) → single ≡ true → ((not (is_fixed_size v) && single) && not lists) ≡ false → (is_fixed_size v && single) ≡ false → lists ≡ true
-  by FixedSize true lists e has several = absurd cc
-  by FixedSize false lists e has several = absurd cc
-  by Dynamic true true e has several = refl
-  by Dynamic true false e has several = absurd cc
-  by Dynamic false lists e has several = absurd cc
+pub cells-listed : (c : ServiceConfig) → c.units_per_element ≡ 1 → lacks_cells c ≡ false → is_single_valued c ≡ false
+    → c.lists_cells ≡ true
+cells-listed c one has several =
+    by c.variant (eqb c.units_per_element 1) c.lists_cells (ap (λ (units : ℕ). eqb units 1) one) has several where
+      by : (v : TypeVariant) (single lists : Bool) → single ≡ true
+          → ((not (is_fixed_size v) && single) && not lists) ≡ false → (is_fixed_size v && single) ≡ false
+          → lists ≡ true
+      by FixedSize true lists e has several = absurd cc
+      by FixedSize false lists e has several = absurd cc
+      by Dynamic true true e has several = refl
+      by Dynamic true false e has several = absurd cc
+      by Dynamic false lists e has several = absurd cc
 
 module _ {T U F G : Type 0} (domain : Domain T U F G) where
   -- in a domain messages are single values, or slices

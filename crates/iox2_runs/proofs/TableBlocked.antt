@@ -17,12 +17,18 @@ use Rattle.iox2_runs.proofs.TableLooks.{handle_of}
 use Rattle.iox2_runs.proofs.TablePassed.{Passed, passed_keeps}
 use Rattle.iox2_runs.proofs.TableSteps.{later_same, no_next, table_next, others_kept}
 
-module _ {T U : Type 0} (environment : Environment) (defaults : Defaults T U) (Shown : Messages T U → State T U → Type 0) (m : Messages T U) (s : State T U) (handles : List Handle)
-    (events : List (Event T U)) (table : List TableEntry) (w : IsTable s handles events table) (default_value : T) (default_header : U)
-    (is_default_value : defaults.IsDefaultValue default_value) (is_default_header : defaults.IsDefaultHeader default_header) where
+module _ {T U : Type 0} (environment : Environment) (defaults : Defaults T U)
+    (Shown : Messages T U → State T U → Type 0) (m : Messages T U) (s : State T U) (handles : List Handle)
+    (events : List (Event T U)) (table : List TableEntry) (w : IsTable s handles events table) (default_value : T)
+    (default_header : U)
+    (is_default_value : defaults.IsDefaultValue default_value)
+    (is_default_header : defaults.IsDefaultHeader default_header) where
   -- the send at this position goes on, and this entry is left of it
-  pub goes_on_comes : (command : Command T U) (of service p n : ℕ) → slice_get table of ≡ Some (Blocked_entry service p n) → (s' : State T U) → Passed p n s s' → Advances s s' → s'.loans ≡ s.loans
-      → (reply : Reply T U) → Step environment default_value default_header m s handles command (replied reply s') → Shown m s'
+  pub goes_on_comes : (command : Command T U) (of service p n : ℕ)
+      → slice_get table of ≡ Some (Blocked_entry service p n) → (s' : State T U) → Passed p n s s' → Advances s s'
+      → s'.loans ≡ s.loans
+      → (reply : Reply T U) → Step environment default_value default_header m s handles command (replied reply s')
+      → Shown m s'
       → (entry : TableEntry) → IsEntryOf s' (Blocked_handle p n) entry
       → Comes environment defaults Shown m s handles events command reply (slice_set table of entry ++ No_entry ∷ [])
   goes_on_comes command of service p n at s' passed rises loans reply step shown entry now =
@@ -39,9 +45,11 @@ module _ {T U : Type 0} (environment : Environment) (defaults : Defaults T U) (S
         shown = shown;
         follows = λ once. table_next s s' handles events table w No_handle No_event No_entry (slice_set table of entry)
             (later_same s s' rises.next_port rises.next_message (λ k _. same k)) (set_length table of entry)
-            (others_kept s s' handles events table w of (Blocked_handle p n) (Blocked_handle p n) entry (passed_keeps (Blocked_handle p n) p n s s' passed)
+            (others_kept s s' handles events table w of (Blocked_handle p n) (Blocked_handle p n) entry
+            (passed_keeps (Blocked_handle p n) p n s s' passed)
             (λ i q k at_i away is. away (w.blocked_apart i of p n (at_i ∙ ap Some is) here))
             here now (λ k _ _. same k)
-            (λ i i' q k _ _. ap (λ (ns : List ℕ). is_borrowed k (record { waiting = []; borrowed = ns; others = [] })) ((passed.remain).borrowed i' q)))
+            (λ i i' q k _ _. ap (λ (ns : List ℕ). is_borrowed k (record { waiting = []; borrowed = ns; others = [] }))
+            ((passed.remain).borrowed i' q)))
             tt (no_next s s' _) once;
       }

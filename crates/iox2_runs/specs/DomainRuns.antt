@@ -13,7 +13,8 @@ use Rattle.iox2_commands.specs.declared.reply.Reply.{Reply}
 
 -- From this state the commands ran, with these default values and replies, to a state that the domain shows. The run is
 -- faithful, and grants the loans that it has to.
-pub record RunsOnDomain {T U F G : Type 0} (defaults : Defaults T U) (new : Domain T U F G) (m : Messages T U) (s : State T U) (commands : List (Command T U)) (replies : List (Reply T U)) : Type 0 where
+pub record RunsOnDomain {T U F G : Type 0} (defaults : Defaults T U) (new : Domain T U F G) (m : Messages T U)
+    (s : State T U) (commands : List (Command T U)) (replies : List (Reply T U)) : Type 0 where
   pub events : List (Event T U)
   pub messages : Messages T U
   pub state : State T U

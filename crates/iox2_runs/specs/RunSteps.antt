@@ -10,10 +10,12 @@ use Rattle.iox2_runs.specs.Tables.{TableEntry, IsTable}
 use Rattle.iox2_commands.specs.declared.command.Command.{Command}
 use Rattle.iox2_commands.specs.declared.reply.Reply.{Reply}
 
--- From these messages, this state and this table, the command steps to what is shown afterwards, with this reply, and the
--- table follows, if no subscriber has received a message twice.
-pub record Comes {T U : Type 0} (environment : Environment) (defaults : Defaults T U) (Shown : Messages T U → State T U → Type 0) (m : Messages T U) (s : State T U)
-    (handles : List Handle) (events : List (Event T U)) (command : Command T U) (reply : Reply T U) (table : List TableEntry) : Type 0 where
+-- From these messages, this state and this table, the command steps to what is shown afterwards, with this reply, and
+-- the table follows, if no subscriber has received a message twice.
+pub record Comes {T U : Type 0} (environment : Environment) (defaults : Defaults T U)
+    (Shown : Messages T U → State T U → Type 0) (m : Messages T U) (s : State T U)
+    (handles : List Handle) (events : List (Event T U)) (command : Command T U) (reply : Reply T U)
+    (table : List TableEntry) : Type 0 where
   pub default_value : T
   pub default_header : U
   pub is_default_value : defaults.IsDefaultValue default_value

@@ -29,4 +29,5 @@ told given asked = record given {
 
 -- A subscriber with that buffer, or with the largest, and that answer to a refused connection.
 abbrev pub given_for : (limit : ℕ) → Option ℕ → DegradationAction → SubscriberSettings
-given_for limit buffer degradation = record { buffer_size = elim buffer [ None ↦ limit | Some asked ↦ asked ]; degradation_handler = Fixed degradation }
+given_for limit buffer degradation =
+    record { buffer_size = elim buffer [ None ↦ limit | Some asked ↦ asked ]; degradation_handler = Fixed degradation }

@@ -26,18 +26,23 @@ pub record IsLiveEntry {T U F G : Type 0} (domain : Domain T U F G) (held : Made
 -- It is no publisher, or one that waits for a receiver.
 abbrev pub IsUnready : {T U F G : Type 0} → Domain T U F G → Made → Type 0
 IsUnready {T} {U} domain held =
-    (publisher : PublisherHandle) → held ≡ Publisher publisher → (m : Messages T U) (s : State T U) → Shows domain m s → IsUnblockedPort s publisher.id → ⊥
+    (publisher : PublisherHandle) → held ≡ Publisher publisher → (m : Messages T U) (s : State T U) → Shows domain m s
+    → IsUnblockedPort s publisher.id → ⊥
 
--- Wherever a table has what is held, the command is carried out with this reply, leaves this in its place, and makes that; and all
--- else that was live stays so.
-pub record Turns {T U F G : Type 0} (environment : Environment) (defaults : Defaults T U) (old new : Domain T U F G) (held : Made)
+-- Wherever a table has what is held, the command is carried out with this reply, leaves this in its place, and makes
+-- that; and all else that was live stays so.
+pub record Turns {T U F G : Type 0} (environment : Environment) (defaults : Defaults T U) (old new : Domain T U F G)
+    (held : Made)
     (command : ℕ → Command T U) (turn : Reply T U × Made × Made) : Type 0 where
-  pub carries : (table : List Made) (of : ℕ) → slice_index_or table of Nothing ≡ held → Carries environment defaults old new table (command of) turn.0 (slice_set table of turn.1) turn.2
-  pub leaves : (table : List Made) (of : ℕ) → slice_index_or table of Nothing ≡ held → LeavesTable old new table (slice_set table of turn.1) turn.2
+  pub carries : (table : List Made) (of : ℕ) → slice_index_or table of Nothing ≡ held
+      → Carries environment defaults old new table (command of) turn.0 (slice_set table of turn.1) turn.2
+  pub leaves : (table : List Made) (of : ℕ) → slice_index_or table of Nothing ≡ held
+      → LeavesTable old new table (slice_set table of turn.1) turn.2
 
--- Whatever the table has, the command is carried out with this reply, changes nothing there, and makes that; and all else that was
--- live stays so.
-pub record Makes {T U F G : Type 0} (environment : Environment) (defaults : Defaults T U) (old new : Domain T U F G) (command : Command T U) (reply : Reply T U) (made : Made) : Type 0 where
+-- Whatever the table has, the command is carried out with this reply, changes nothing there, and makes that; and all
+-- else that was live stays so.
+pub record Makes {T U F G : Type 0} (environment : Environment) (defaults : Defaults T U) (old new : Domain T U F G)
+    (command : Command T U) (reply : Reply T U) (made : Made) : Type 0 where
   pub carries : (table : List Made) → Carries environment defaults old new table command reply table made
   pub leaves : (table : List Made) → LeavesTable old new table table made
 
@@ -48,7 +53,8 @@ pub record IsTakenFromTable {A : Type 0} (old new : Vec Made A) (of : ℕ) (take
   pub stood : taken ≡ slice_index_or old.items of Nothing
 
 -- What a command left stands at the table's position.
-pub record IsPutBack {T U A : Type 0} (old new : Vec Made A) (of : ℕ) (turn : Reply T U × Made × Made) (result : Reply T U × Made) : Type 0 where
+pub record IsPutBack {T U A : Type 0} (old new : Vec Made A) (of : ℕ) (turn : Reply T U × Made × Made)
+    (result : Reply T U × Made) : Type 0 where
   pub items : new.items ≡ slice_set old.items of turn.1
   pub room : SameRoom old new
   pub reply : result.0 ≡ turn.0

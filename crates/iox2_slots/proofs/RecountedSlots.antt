@@ -18,11 +18,19 @@ book_of node publisher slots = record {
 
 module _ (slots : List Slot) (slot : ℕ) (old : Slot) (at : old ≡ get_or slots slot old) where
   -- it keeps all else
-  pub recounted : (node publisher count : ℕ) → book_of node publisher (slice_set slots slot (record old { holders = count })) ≡ with_holders (book_of node publisher slots) slot count
+  pub recounted : (node publisher count : ℕ) → book_of node publisher
+      (slice_set slots slot (record old { holders = count })) ≡ with_holders (book_of node publisher slots) slot count
   recounted node publisher count =
       let new : Slot = record old { holders = count } in
-      rw (field_kept (λ (s : Slot). s.number) slots slot old new at refl, field_kept (λ (s : Slot). s.header) slots slot old new at refl, field_kept (λ (s : Slot). s.mark) slots slot old new at refl, map-set (λ (s : Slot). s.holders) slots slot new) refl
+      rw (
+        field_kept (λ (s : Slot). s.number) slots slot old new at refl,
+        field_kept (λ (s : Slot). s.header) slots slot old new at refl,
+        field_kept (λ (s : Slot). s.mark) slots slot old new at refl,
+        map-set (λ (s : Slot). s.holders) slots slot new,
+      ) refl
 
   -- how many it had
-  pub holders-read : slot < length (map (λ (s : Slot). s.holders) slots) → slice_index (map (λ (s : Slot). s.holders) slots) slot ≡ old.holders
-  holders-read low = count_read (λ (s : Slot). s.holders) slots slot old (within_records (λ (s : Slot). s.holders) slots slot low) at
+  pub holders-read : slot < length (map (λ (s : Slot). s.holders) slots)
+      → slice_index (map (λ (s : Slot). s.holders) slots) slot ≡ old.holders
+  holders-read low =
+      count_read (λ (s : Slot). s.holders) slots slot old (within_records (λ (s : Slot). s.holders) slots slot low) at

@@ -4,8 +4,8 @@ use Rattle.iox2_machine.specs.declared.header.Header.{Header}
 use Rattle.iox2_slots.specs.declared.slots.mark.SlotMark.{SlotMark}
 use Rattle.iox2_slots.specs.declared.slots.mark.SlotMark.TheVariants.{Unwritten}
 
--- A publisher and its node, and for each of its slots the number, the header and the mark of the message in it, and how many holders
--- the slot has.
+-- A publisher and its node, and for each of its slots the number, the header and the mark of the message in it, and how
+-- many holders the slot has.
 pub record Book : Type 0 where
   pub node : ℕ
   pub publisher : ℕ

@@ -1,5 +1,6 @@
 -- The list of a publisher's free slots, which no contract shows.
-use Rattle.std.specs.Prelude.{◌≡◌, ◌+◌, ◌<◌, ◌++◌, ℕ, List, length, slice_index, slice_index_or, map, take, drop, Bool, false, if◌then◌else◌, ◌==◌}
+use Rattle.std.specs.Prelude.{◌≡◌, ◌+◌, ◌<◌, ◌++◌, ℕ, List, length, slice_index, slice_index_or, map, take, drop, Bool}
+use Rattle.std.specs.Prelude.{false, if◌then◌else◌, ◌==◌}
 use Rattle.std.specs.List.{count_by}
 
 -- The list has each index at which the tests say true once, and no other.

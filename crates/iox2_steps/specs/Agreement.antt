@@ -22,8 +22,8 @@ module _ {T U : Type 0} where
   pub record HasOwners (f : Fields T U) : Type 0 where
     pub at : (key : ℕ) (b : Book) → get f.books key ≡ Some b → IsOwned f.publishers key b.publisher ⊎ IsOrphan f b
 
-  -- The fields agree with one another, each loan has one holder, and the publisher of each book stands or is gone. What they
-  -- keep needn't be well-formed.
+  -- The fields agree with one another, each loan has one holder, and the publisher of each book stands or is gone. What
+  -- they keep needn't be well-formed.
   pub record HasOwnedParts (f : Fields T U) : Type 0 where
     pub parts : HasParts f
     pub lone : HasLoneLoans f.books
@@ -35,8 +35,10 @@ module _ {T U : Type 0} where
 
   -- Nothing newly lies in a slot, and what lies in a slot that is still in use stays.
   pub record KeepsMessages (old new : Fields T U) : Type 0 where
-    pub back : (key slot : ℕ) (m : KeptMessage T U) → message_lying new key slot ≡ Some m → message_lying old key slot ≡ Some m
-    pub forth : (key slot n : ℕ) (m : KeptMessage T U) → HasNumber new.books key slot n → message_lying old key slot ≡ Some m → message_lying new key slot ≡ Some m
+    pub back : (key slot : ℕ) (m : KeptMessage T U) → message_lying new key slot ≡ Some m
+        → message_lying old key slot ≡ Some m
+    pub forth : (key slot n : ℕ) (m : KeptMessage T U) → HasNumber new.books key slot n
+        → message_lying old key slot ≡ Some m → message_lying new key slot ≡ Some m
     pub number : (key slot n : ℕ) → HasNumber new.books key slot n → HasNumber old.books key slot n
 
   -- The fields agree and keep this state afterwards, except its channels. Of the messages they keep those that somebody

@@ -34,7 +34,8 @@ without_publisher p y = record y { ends = vacated p y.ends; expired = without p 
 
 -- The publisher of a connection with this home stands at its place.
 abbrev pub IsStanding : List (Option PublisherFields) → Home → Type 0
-IsStanding publishers home = IsSomeAnd (slice_index_or publishers home.publisher_place None) (λ (x : PublisherFields). x.id ≡ home.publisher)
+IsStanding publishers home =
+    IsSomeAnd (slice_index_or publishers home.publisher_place None) (λ (x : PublisherFields). x.id ≡ home.publisher)
 
 -- The publisher of the connection stands nowhere.
 abbrev pub HasNoPublisher : List (Option PublisherFields) → Link → Type 0
@@ -72,20 +73,22 @@ module _ {T U : Type 0} where
     pub connection : Updates f.connections f'.connections key (Some (without_waiting c))
     pub books : (k : ℕ) → k ≢ c.home.book → get f'.books k ≡ get f.books k
 
-  -- The subscriber at the place has forgotten the connection at the key, which is gone, if no slot stood in it, and so is
-  -- the book of its publisher if nothing held a slot of it.
-  pub record ForgetsIfEmpty (f : Fields T U) (place key : ℕ) (y : SubscriberFields) (c : Link) (f' : Fields T U) : Type 0 where
+  -- The subscriber at the place has forgotten the connection at the key, which is gone, if no slot stood in it, and so
+  -- is the book of its publisher if nothing held a slot of it.
+  pub record ForgetsIfEmpty (f : Fields T U) (place key : ℕ) (y : SubscriberFields) (c : Link)
+      (f' : Fields T U) : Type 0 where
     pub passes : Passes f f' (forgotten_if_empty (state_of (kept_of f)) c.home.publisher c.home.subscriber)
     pub publishers : f'.publishers ≡ f.publishers
     pub next_port : f'.next_port ≡ f.next_port
-    pub subscriber : (z : SubscriberFields) × (slice_index_or f'.subscribers place None ≡ Some z) × ((z ≡ y) ⊎ (z ≡ key_forgotten key y))
+    pub subscriber : (z : SubscriberFields) × (slice_index_or f'.subscribers place None ≡ Some z)
+        × ((z ≡ y) ⊎ (z ≡ key_forgotten key y))
     pub others : (k : ℕ) → k ≢ key → get f'.connections k ≡ get f.connections k
     pub left : (d : Link) → get f'.connections key ≡ Some d → (d ≡ c) × IsBusy c
     pub books : (k : ℕ) → k ≢ c.home.book → get f'.books k ≡ get f.books k
     pub held : (b : Book) → get f'.books c.home.book ≡ Some b → IsUsed b
 
-  -- The publisher of the connection at the key was gone. What waited in it for the subscriber at the place is lost, and the
-  -- subscriber has forgotten it if no slot stood in it then.
+  -- The publisher of the connection at the key was gone. What waited in it for the subscriber at the place is lost, and
+  -- the subscriber has forgotten it if no slot stood in it then.
   pub record LosesLeft (f : Fields T U) (place key : ℕ) (f' : Fields T U) : Type 0 where
     pub left : IsLeftAt f place key
     pub between : Fields T U
@@ -95,4 +98,5 @@ module _ {T U : Type 0} where
   -- The same, where there is such a key; or there is none, or the publisher is there, and nothing changed.
   abbrev pub LosesIfLeft : Fields T U → (place : ℕ) → Option ℕ → Fields T U → Type 0
   LosesIfLeft f place None f' = f' ≡ f
-  LosesIfLeft f place (Some key) f' = LosesLeft f place key f' ⊎ (((c : Link) → get f.connections key ≡ Some c → HasNoPublisher f.publishers c → ⊥) × (f' ≡ f))
+  LosesIfLeft f place (Some key) f' = LosesLeft f place key f'
+      ⊎ (((c : Link) → get f.connections key ≡ Some c → HasNoPublisher f.publishers c → ⊥) × (f' ≡ f))

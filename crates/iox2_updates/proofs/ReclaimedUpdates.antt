@@ -15,7 +15,8 @@ use Rattle.iox2_domain.specs.Updates.{is_publisher_due, subscriber_but_room}
 use Rattle.iox2_domain.proofs.lemmas.fields.ReachesShows.{reaches-then}
 use Rattle.iox2_updates.specs.Ends.{IsSenderDue}
 
-module _ {T U : Type 0} (environment : Environment) (f mid : Fields T U) (reaches : Reaches f mid (state_of (kept_of f)))
+module _ {T U : Type 0} (environment : Environment) (f mid : Fields T U)
+    (reaches : Reaches f mid (state_of (kept_of f)))
     (only : mid ≡ record f { connections = mid.connections; books = mid.books }) (i : ℕ) (due : IsSenderDue f i) where
   -- the publisher is due still
   abbrev pub due-still : IsSenderDue mid i
@@ -28,16 +29,20 @@ module _ {T U : Type 0} (environment : Environment) (f mid : Fields T U) (reache
   }
 
   -- its update from there is one from the start
-  pub updates-from : (new : Fields T U) (failure : Option ConnectionFailure) → UpdatesKeptPublisher environment mid i due.publisher new failure → UpdatesKeptPublisher environment f i due.publisher new failure
+  pub updates-from : (new : Fields T U) (failure : Option ConnectionFailure)
+      → UpdatesKeptPublisher environment mid i due.publisher new failure
+      → UpdatesKeptPublisher environment f i due.publisher new failure
   updates-from new failure u = record {
     after = u.after;
-    updates = subst (λ (s : State T U). UpdatePublisher environment s (due.publisher).id u.after failure) reaches.state u.updates;
+    updates = subst
+        (λ (s : State T U). UpdatePublisher environment s (due.publisher).id u.after failure) reaches.state u.updates;
     reaches = reaches-then f mid new (state_of (kept_of f)) u.after reaches u.reaches;
     keys = u.keys;
     key_room = u.key_room;
     fields = u.fields
         ∙ (λ k. record (only k) {
-          publishers = slice_set ((only k).publishers) i (Some (record (due.publisher) { keys = u.keys; key_room = u.key_room; is_due = false }));
+          publishers = slice_set ((only k).publishers) i
+              (Some (record (due.publisher) { keys = u.keys; key_room = u.key_room; is_due = false }));
           subscribers = new.subscribers;
           connections = new.connections;
           books = new.books;

@@ -36,7 +36,8 @@ module _ {T U : Type 0} where
     pub unblocked : publisher.blocked ≡ None
     pub within : at.subscriber < length f.subscribers
 
-  -- A domain in which two ports stand at these places, and this is the subscriber's key at the publisher's place, if it has one.
+  -- A domain in which two ports stand at these places, and this is the subscriber's key at the publisher's place, if it
+  -- has one.
   pub record MeetAt (f : Fields T U) (at : Places) (key : Option ℕ) : Type 0 where
     pub agrees : IsDomain f
     pub publisher : PublisherFields
@@ -45,7 +46,8 @@ module _ {T U : Type 0} where
     pub subscriber_stands : slice_index_or f.subscribers at.subscriber None ≡ Some subscriber
     pub has : slice_index_or subscriber.keys at.publisher None ≡ key
 
-  -- A domain in which the subscriber at these places has the key of a departed publisher's connection at the publisher's place.
+  -- A domain in which the subscriber at these places has the key of a departed publisher's connection at the
+  -- publisher's place.
   pub record DepartedAt (f : Fields T U) (at : Places) (key : ℕ) : Type 0 where
     pub agrees : IsDomain f
     pub subscriber : SubscriberFields
@@ -53,5 +55,7 @@ module _ {T U : Type 0} where
     pub end : HasDepartedEnd f at.subscriber at.publisher subscriber key link
 
   -- The subscriber whose publisher departed has this side now that the publisher is retired from its place in this way.
-  abbrev pub RetiresAt : {f : Fields T U} {at : Places} {key : ℕ} → DepartedAt f at key → Retirement → (f' : Fields T U) → Type 0
-  RetiresAt {f} {at} departed how f' = ChangesReceiver f at.subscriber departed.subscriber (retired f at.publisher departed.subscriber departed.link.home.publisher how) f'
+  abbrev pub RetiresAt : {f : Fields T U} {at : Places} {key : ℕ} → DepartedAt f at key → Retirement → (f' : Fields T U)
+      → Type 0
+  RetiresAt {f} {at} departed how f' = ChangesReceiver f at.subscriber departed.subscriber
+      (retired f at.publisher departed.subscriber departed.link.home.publisher how) f'

@@ -12,7 +12,9 @@ use Rattle.iox2_machine.specs.machine.Environments.{ample_memory}
 use Rattle.iox2_commands.specs.Runs.{Run, any_defaults}
 use Rattle.iox2_commands.specs.declared.command.Command.{Command}
 use Rattle.iox2_commands.specs.declared.reply.Reply.{Reply}
-use Rattle.iox2_commands.specs.declared.reply.Reply.TheVariants.{Skipped, PublisherMade, PublisherRefused, SubscriberRefused, LoanRefused, SendRefused, UpdateRefused, ReceiveRefused}
+use Rattle.iox2_commands.specs.declared.reply.Reply.TheVariants.{Skipped, PublisherMade, PublisherRefused}
+use Rattle.iox2_commands.specs.declared.reply.Reply.TheVariants.{SubscriberRefused, LoanRefused, SendRefused}
+use Rattle.iox2_commands.specs.declared.reply.Reply.TheVariants.{UpdateRefused, ReceiveRefused}
 
 -- The command was neither skipped nor refused.
 abbrev pub is_granted : {T U : Type 0} → Reply T U → Bool
@@ -32,4 +34,5 @@ Fills {T} {U} c loans commands =
     (replies : List (Reply T U)) (events : List (Event T U)) (m : Messages T U) (s : State T U)
     → Run ample_memory any_defaults no_messages (fresh c) commands replies events m s
     → (list_all is_granted replies ≡ true)
-    × ((p : ℕ) × (x : Publisher) × (slice_get replies 0 ≡ Some (PublisherMade p)) × (s.publishers p ≡ Some x) × (size (held s p x) ≡ worst_case c loans))
+    × ((p : ℕ) × (x : Publisher) × (slice_get replies 0 ≡ Some (PublisherMade p)) × (s.publishers p ≡ Some x)
+    × (size (held s p x) ≡ worst_case c loans))

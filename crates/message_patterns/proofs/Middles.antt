@@ -22,8 +22,12 @@ majority it a b c is same =
     let high : one_if_within it a ≡ one_if_within it b = ap (λ x. one_if_within it x) same in
     let c1 : one_if_within c it ≤ 1 = at-most c it in
     let c2 : one_if_within it c ≤ 1 = at-most it c in
-    let p : a ≤ it = one-means a it (let b1 : 2 ≤ one_if_within a it + one_if_within b it + one_if_within c it = is.below in omega (arith, b1, low, c1)) in
-    let q : it ≤ a = one-means it a (let b1 : 2 ≤ one_if_within it a + one_if_within it b + one_if_within it c = is.above in omega (arith, b1, high, c2)) in
+    let p : a ≤ it =
+    one-means a it (let b1 : 2 ≤ one_if_within a it + one_if_within b it + one_if_within c it = is.below in
+    omega (arith, b1, low, c1)) in
+    let q : it ≤ a =
+    one-means it a (let b1 : 2 ≤ one_if_within it a + one_if_within it b + one_if_within it c = is.above in
+    omega (arith, b1, high, c2)) in
     omega (arith, p, q)
 
 -- the order doesn't matter
@@ -58,10 +62,13 @@ middle-of-votes it x y z a b c two one none is px py pz = first px where
       last : (u : Vote) → Picks (u ∷ []) z none → z ≡ u.value
       last u p = ⊎_elim (λ here. here.0) (λ gone. absurd gone.1) p
 
-  put : (u v w : Vote) → x ≡ u.value → (((y ≡ v.value) × (z ≡ w.value)) ⊎ ((y ≡ w.value) × (z ≡ v.value))) → IsMiddle it u.value v.value w.value
+  put : (u v w : Vote) → x ≡ u.value → (((y ≡ v.value) × (z ≡ w.value)) ⊎ ((y ≡ w.value) × (z ≡ v.value)))
+      → IsMiddle it u.value v.value w.value
   put u v w ex rest = ⊎_elim
-      (λ e. subst (λ k. IsMiddle it u.value v.value k) e.1 (subst (λ k. IsMiddle it u.value k z) e.0 (subst (λ k. IsMiddle it k y z) ex is)))
-      (λ e. let m : IsMiddle it u.value w.value v.value = subst (λ k. IsMiddle it u.value w.value k) e.1 (subst (λ k. IsMiddle it u.value k z) e.0 (subst (λ k. IsMiddle it k y z) ex is)) in
+      (λ e. subst (λ k. IsMiddle it u.value v.value k) e.1
+      (subst (λ k. IsMiddle it u.value k z) e.0 (subst (λ k. IsMiddle it k y z) ex is)))
+      (λ e. let m : IsMiddle it u.value w.value v.value = subst (λ k. IsMiddle it u.value w.value k) e.1
+      (subst (λ k. IsMiddle it u.value k z) e.0 (subst (λ k. IsMiddle it k y z) ex is)) in
       middle-turn it w.value u.value v.value (middle-swap it u.value w.value v.value m))
       rest
 
@@ -71,7 +78,8 @@ middle-of-votes it x y z a b c two one none is px py pz = first px where
       (λ later. ⊎_elim
       (λ here. middle-swap it b.value a.value c.value (put b a c here.0 (pair a c (later.2 ∙ ap (λ l. a ∷ l) here.1))))
       (λ last. ⊎_elim
-      (λ here. middle-turn it c.value a.value b.value (put c a b here.0 (pair a b (later.2 ∙ ap (λ l. a ∷ l) (last.2 ∙ ap (λ l. b ∷ l) here.1)))))
+      (λ here. middle-turn it c.value a.value b.value
+      (put c a b here.0 (pair a b (later.2 ∙ ap (λ l. a ∷ l) (last.2 ∙ ap (λ l. b ∷ l) here.1)))))
       (λ gone. absurd gone.1)
       last.1)
       later.1)

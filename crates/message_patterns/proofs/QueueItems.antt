@@ -15,8 +15,10 @@ concat-singles (value ∷ values) = ap (λ (others : List ℕ). value ∷ others
 
 module _ {U F G : Type 0} (domain : Kept ℕ U F G) (publisher : Publisher) (subscriber : Subscriber) where
   -- what waits is what clauses see
-  pub wait-items : (items : List ℕ) → Wait domain publisher.id subscriber items → concat (payloads domain subscriber) ≡ items
+  pub wait-items : (items : List ℕ) → Wait domain publisher.id subscriber items
+      → concat (payloads domain subscriber) ≡ items
   wait-items items wait = ap concat wait.all ∙ concat-singles items
 
-  pub queue-count : (count : ℕ) → IsQueue domain publisher subscriber count → length (concat (payloads domain subscriber)) ≡ count
+  pub queue-count : (count : ℕ) → IsQueue domain publisher subscriber count
+      → length (concat (payloads domain subscriber)) ≡ count
   queue-count count is = ap length (wait-items is.items is.wait) ∙ is.counted

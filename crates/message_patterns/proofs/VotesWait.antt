@@ -10,7 +10,8 @@ use Rattle.message_patterns.specs.Votes.{Picks, Vote, VotesWait, shares_of}
 -- no vote is empty
 all-some : (votes : List Vote) → without_empty (shares_of votes) ≡ shares_of votes
 all-some [] = refl
-all-some (vote ∷ votes) = ap (λ (others : List (Share ℕ)). share_of vote.publisher ((vote.value ∷ []) ∷ []) ∷ others) (all-some votes)
+all-some (vote ∷ votes) =
+    ap (λ (others : List (Share ℕ)). share_of vote.publisher ((vote.value ∷ []) ∷ []) ∷ others) (all-some votes)
 
 -- What a pick leaves.
 record Picked (votes : List Vote) (value : ℕ) (shares : List (Share ℕ)) : Type 0 where
@@ -18,7 +19,8 @@ record Picked (votes : List Vote) (value : ℕ) (shares : List (Share ℕ)) : Ty
   picks : Picks votes value left
   same : without_empty shares ≡ shares_of left
 
-picked : (votes : List Vote) (origin value : ℕ) (shares : List (Share ℕ)) → TakesFrom (shares_of votes) origin (value ∷ []) shares → Picked votes value shares
+picked : (votes : List Vote) (origin value : ℕ) (shares : List (Share ℕ))
+    → TakesFrom (shares_of votes) origin (value ∷ []) shares → Picked votes value shares
 picked [] origin value shares takes = absurd takes
 picked (vote ∷ votes) origin value shares takes =
     ⊎_elim
@@ -29,21 +31,26 @@ picked (vote ∷ votes) origin value shares takes =
     record {
       left = votes;
       picks = inl (equal, refl);
-      same = ap without_empty it.3 ∙ ap (λ (rest : List (List ℕ)). without_empty (share_of origin rest ∷ shares_of votes)) none ∙ all-some votes;
+      same = ap without_empty it.3
+          ∙ ap (λ (rest : List (List ℕ)). without_empty (share_of origin rest ∷ shares_of votes)) none ∙ all-some votes;
     })
     (λ it.
     let rest = picked votes origin value it.0 it.1 in
     record {
       left = vote ∷ rest.left;
       picks = inr (rest.left, rest.picks, refl);
-      same = ap without_empty it.2 ∙ ap (λ (others : List (Share ℕ)). share_of vote.publisher ((vote.value ∷ []) ∷ []) ∷ others) rest.same;
+      same = ap without_empty it.2
+          ∙ ap (λ (others : List (Share ℕ)). share_of vote.publisher ((vote.value ∷ []) ∷ []) ∷ others) rest.same;
     })
     takes
 
 -- a vote is taken out
-pub take-vote : {U F G : Type 0} (old new : Kept ℕ U F G) (subscriber : Subscriber) (origin value : ℕ) → payloads_from old origin subscriber ≡ (value ∷ []) ∷ payloads_from new origin subscriber
-    → ((other : ℕ) → (other ≡ origin → ⊥) → payloads_from new other subscriber ≡ payloads_from old other subscriber) → IsConsistent old → suc (waiting new subscriber) ≡ waiting old subscriber
-    → (votes : List Vote) → VotesWait old subscriber votes → (left : List Vote) × Picks votes value left × VotesWait new subscriber left
+pub take-vote : {U F G : Type 0} (old new : Kept ℕ U F G) (subscriber : Subscriber) (origin value : ℕ)
+    → payloads_from old origin subscriber ≡ (value ∷ []) ∷ payloads_from new origin subscriber
+    → ((other : ℕ) → (other ≡ origin → ⊥) → payloads_from new other subscriber ≡ payloads_from old other subscriber)
+    → IsConsistent old → suc (waiting new subscriber) ≡ waiting old subscriber
+    → (votes : List Vote) → VotesWait old subscriber votes
+    → (left : List Vote) × Picks votes value left × VotesWait new subscriber left
 take-vote old new subscriber origin value first others consistent one votes wait =
     let took = share_taken old new subscriber origin (value ∷ []) first others consistent one (shares_of votes) wait in
     let pick = picked votes origin value took.0 took.1 in

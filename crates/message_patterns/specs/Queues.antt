@@ -2,7 +2,8 @@
 use Rattle.std.specs.Prelude.{ℕ, List, ◌≡◌, ◌≤◌, length}
 use Rattle.std.specs.List.{concat}
 use Rattle.iox2_pubsub.specs.Domains.{Kept}
-use Rattle.iox2_pubsub.specs.Live.{HasItsBuffer, IsConnected, IsLivePublisher, IsLiveSubscriber, IsSingleValued, IsUpToDate, payloads}
+use Rattle.iox2_pubsub.specs.Live.{HasItsBuffer, IsConnected, IsLivePublisher, IsLiveSubscriber, IsSingleValued}
+use Rattle.iox2_pubsub.specs.Live.{IsUpToDate, payloads}
 use Rattle.iox2_pubsub.specs.BorrowsLeft.{HasBorrowsLeft}
 use Rattle.iox2_pubsub.specs.LoansLeft.{HasLoansLeft}
 use Rattle.iox2_pubsub.specs.declared.publisher.Publisher.{Publisher}
@@ -15,7 +16,8 @@ pub record QueueView : Type 0 where
   pub capacity : ℕ
 
 module _ {U F G : Type 0} (domain : Kept ℕ U F G) (publisher : Publisher) (subscriber : Subscriber) where
-  -- The ports of a queue: they are live and connected, the subscriber is up to date, no send waits, and a slot and a borrow are left.
+  -- The ports of a queue: they are live and connected, the subscriber is up to date, no send waits, and a slot and a
+  -- borrow are left.
   pub record AreQueuePorts : Type 0 where
     pub single_valued : IsSingleValued domain
     pub sender : IsLivePublisher domain publisher

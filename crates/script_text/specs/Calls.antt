@@ -37,16 +37,16 @@ IsCallWith call of number (command.SendCopy it value) = (call ≡ codes "copy") 
 IsCallWith call of number (command.Read it value) = (call ≡ codes "read") × (it ≡ of) × (value ≡ number)
 IsCallWith call of number _ = ⊥
 
--- `open`: a subscriber's channel comes into the state where it is closed. `state`: whether it is in the state somewhere. `shut`: it is
--- closed where it is in the state. `hint`: it has a disconnect hint where it is in the state.
+-- `open`: a subscriber's channel comes into the state where it is closed. `state`: whether it is in the state
+-- somewhere. `shut`: it is closed where it is in the state. `hint`: it has a disconnect hint where it is in the state.
 abbrev pub IsSubscriberCall : (call : List ℕ) → (state : ℕ) → SubscriberChannelCall → Type 0
 IsSubscriberCall call state (subscriber.SetState it) = (call ≡ codes "open") × (it ≡ state)
 IsSubscriberCall call state (subscriber.SomeHasState it) = (call ≡ codes "state") × (it ≡ state)
 IsSubscriberCall call state (subscriber.Close it) = (call ≡ codes "shut") × (it ≡ state)
 IsSubscriberCall call state (subscriber.SetDisconnectHint it) = (call ≡ codes "hint") × (it ≡ state)
 
--- `state`: whether a publisher's channel is in the state. `hinted`: whether it has a disconnect hint, too. `shut`: it is closed where it
--- is in the state.
+-- `state`: whether a publisher's channel is in the state. `hinted`: whether it has a disconnect hint, too. `shut`: it
+-- is closed where it is in the state.
 abbrev pub IsPublisherCall : (call : List ℕ) → (state : ℕ) → PublisherChannelCall → Type 0
 IsPublisherCall call state (publisher.HasState it) = (call ≡ codes "state") × (it ≡ state)
 IsPublisherCall call state (publisher.HasDisconnectHint it) = (call ≡ codes "hinted") × (it ≡ state)
@@ -55,12 +55,15 @@ IsPublisherCall call state (publisher.Close it) = (call ≡ codes "shut") × (it
 -- The words at these places are the numbers of a command, and two others.
 abbrev pub AreNumbers : (name first second : List ℕ) → (of one two : ℕ) → Type 0
 AreNumbers name first second of one two =
-    IsNumber name × (of ≡ position_of (value_of name)) × IsNumber first × (one ≡ value_of first) × IsNumber second × (two ≡ value_of second)
+    IsNumber name × (of ≡ position_of (value_of name)) × IsNumber first × (one ≡ value_of first) × IsNumber second
+    × (two ≡ value_of second)
 
 -- The call that these words name is this command.
 abbrev pub IsCallWithTwo : (call name first second : List ℕ) → Command ℕ ℕ → Type 0
-IsCallWithTwo call name first second (command.WriteCell of at value) = (call ≡ codes "cell") × AreNumbers name first second of at value
-IsCallWithTwo call name first second (command.SetPayload of at value) = (call ≡ codes "set") × AreNumbers name first second of at value
+IsCallWithTwo call name first second (command.WriteCell of at value) =
+    (call ≡ codes "cell") × AreNumbers name first second of at value
+IsCallWithTwo call name first second (command.SetPayload of at value) =
+    (call ≡ codes "set") × AreNumbers name first second of at value
 IsCallWithTwo call name first second (command.SendToConnection of channel connection) =
     (call ≡ codes "deliver") × AreNumbers name first second of channel connection
 IsCallWithTwo call name first second (command.SubscriberChannel of channel it) =
@@ -70,5 +73,6 @@ IsCallWithTwo call name first second _ = ⊥
 -- The call that these words name is this command.
 abbrev pub IsCallWithThree : (call name first second third : List ℕ) → Command ℕ ℕ → Type 0
 IsCallWithThree call name first second third (command.PublisherChannel of channel connection it) =
-    (state : ℕ) × IsPublisherCall call state it × AreNumbers name first second of channel connection × IsNumber third × (state ≡ value_of third)
+    (state : ℕ) × IsPublisherCall call state it × AreNumbers name first second of channel connection × IsNumber third
+    × (state ≡ value_of third)
 IsCallWithThree call name first second third _ = ⊥

@@ -24,7 +24,8 @@ use Rattle.iox2_commands.specs.declared.command.Command.{Command}
 use Rattle.iox2_commands.specs.declared.command.Command.TheVariants as command
 
 -- The settings that a domain line names.
-abbrev pub script_config : (variant : TypeVariant) (publishers subscribers buffer borrowed history expired channels : ℕ) (overflow : Bool) → ServiceConfig
+abbrev pub script_config : (variant : TypeVariant) (publishers subscribers buffer borrowed history expired channels : ℕ)
+    (overflow : Bool) → ServiceConfig
 script_config variant publishers subscribers buffer borrowed history expired channels overflow = record {
   service_id = 1;
   node_id = 1;
@@ -103,10 +104,11 @@ IsSizeOrMost word (Some size) = IsNumber word × (size ≡ value_of word)
 -- A connection has one channel where a domain line has eight words. `.. channels C` behind these: it has C channels.
 abbrev pub SaysChannels : Words → (channels : ℕ) → Type 0
 SaysChannels words channels =
-    (words.count ≡ 8) × (channels ≡ 1) ⊎ (words.count ≡ 10) × (words.word 8 ≡ codes "channels") × IsNumberAt words 9 channels
+    (words.count ≡ 8) × (channels ≡ 1) ⊎ (words.count ≡ 10) × (words.word 8 ≡ codes "channels")
+    × IsNumberAt words 9 channels
 
--- `domain P S B R H E overflow` or `.. keep` names the settings with P, S, B, R, H and E, and so does `slices ..`; the number of channels
--- may follow.
+-- `domain P S B R H E overflow` or `.. keep` names the settings with P, S, B, R, H and E, and so does `slices ..`; the
+-- number of channels may follow.
 pub record IsDomainLine (words : Words) (config : ServiceConfig) : Type 0 where
   pub channels : ℕ
   pub says : SaysChannels words channels
@@ -120,7 +122,9 @@ pub record IsDomainLine (words : Words) (config : ServiceConfig) : Type 0 where
   pub expired : IsNumber (words.word 6)
   pub overflow : Bool
   pub mode : IsMode (words.word 7) overflow
-  pub settings : config ≡ script_config variant (value_of (words.word 1)) (value_of (words.word 2)) (value_of (words.word 3)) (value_of (words.word 4)) (value_of (words.word 5)) (value_of (words.word 6)) channels overflow
+  pub settings : config ≡ script_config variant (value_of (words.word 1)) (value_of (words.word 2))
+      (value_of (words.word 3)) (value_of (words.word 4)) (value_of (words.word 5))
+      (value_of (words.word 6)) channels overflow
 
 -- `pub L retry` or `.. discard`: a publisher with L loans and this strategy, whose memory is static. With five words
 -- more: how its memory grows, the length of a slice that its first slots hold, the number of its slots, and its
@@ -130,7 +134,8 @@ IsPublisherLine words asked =
     (words.word 0 ≡ codes "pub") × IsNumberAt words 1 asked.loans × IsStrategy (words.word 2) asked.strategy
     × ((words.count ≡ 3) × (asked ≡ publisher_with asked.loans asked.strategy)
     ⊎ (words.count ≡ 8) × IsAllocation (words.word 3) asked.allocation × IsNumberAt words 4 asked.initial_max_slice_len
-    × IsSizeOrMost (words.word 5) asked.override_slots × IsDegradation (words.word 6) asked.degradation × IsHandler (words.word 7) asked.backpressure)
+    × IsSizeOrMost (words.word 5) asked.override_slots × IsDegradation (words.word 6) asked.degradation
+    × IsHandler (words.word 7) asked.backpressure)
 
 -- `sub B`: a subscriber with this buffer. With one word more: its handler's answer.
 abbrev pub IsSubscriberLine : Words → Option ℕ → DegradationAction → Type 0
@@ -149,7 +154,8 @@ IsRetryLine words of elapsed =
 -- `read N`: the first value of a sample or loan. `read N A`: the one at A, counted from 0.
 abbrev pub IsReadLine : Words → (of at : ℕ) → Type 0
 IsReadLine words of at =
-    (words.word 0 ≡ codes "read") × IsNameAt words 1 of × ((words.count ≡ 2) × (at ≡ 0) ⊎ (words.count ≡ 3) × IsNumberAt words 2 at)
+    (words.word 0 ≡ codes "read") × IsNameAt words 1 of
+    × ((words.count ≡ 2) × (at ≡ 0) ⊎ (words.count ≡ 3) × IsNumberAt words 2 at)
 
 -- What the words of a line after the first ask for.
 abbrev pub IsCommandLine : Words → Command ℕ ℕ → Type 0
@@ -160,17 +166,23 @@ IsCommandLine words (command.CreateSubscriber buffer degradation) = IsSubscriber
 -- `loan N`, `default N`, `slice N L`: a loan of publisher N, unwritten, of a default value, or of L elements.
 IsCommandLine words (command.LoanUninit of) = HasForm words (codes "loan") 2 × IsNameAt words 1 of
 IsCommandLine words (command.Loan of) = HasForm words (codes "default") 2 × IsNameAt words 1 of
-IsCommandLine words (command.LoanSlice of len) = HasForm words (codes "slice") 3 × IsNameAt words 1 of × IsNumberAt words 2 len
--- `write N V`, `cell N A V`, `set N A V`, `init N`, `user N V`: each cell of a loan is written, one cell of an unwritten loan or one
--- value of a written one; the loan counts as written; its user header is written.
-IsCommandLine words (command.WriteAll of value) = HasForm words (codes "write") 3 × IsNameAt words 1 of × IsNumberAt words 2 value
-IsCommandLine words (command.WriteCell of at value) = HasForm words (codes "cell") 4 × IsNameAt words 1 of × IsNumberAt words 2 at × IsNumberAt words 3 value
-IsCommandLine words (command.SetPayload of at value) = HasForm words (codes "set") 4 × IsNameAt words 1 of × IsNumberAt words 2 at × IsNumberAt words 3 value
+IsCommandLine words (command.LoanSlice of len) =
+    HasForm words (codes "slice") 3 × IsNameAt words 1 of × IsNumberAt words 2 len
+-- `write N V`, `cell N A V`, `set N A V`, `init N`, `user N V`: each cell of a loan is written, one cell of an
+-- unwritten loan or one value of a written one; the loan counts as written; its user header is written.
+IsCommandLine words (command.WriteAll of value) =
+    HasForm words (codes "write") 3 × IsNameAt words 1 of × IsNumberAt words 2 value
+IsCommandLine words (command.WriteCell of at value) =
+    HasForm words (codes "cell") 4 × IsNameAt words 1 of × IsNumberAt words 2 at × IsNumberAt words 3 value
+IsCommandLine words (command.SetPayload of at value) =
+    HasForm words (codes "set") 4 × IsNameAt words 1 of × IsNumberAt words 2 at × IsNumberAt words 3 value
 IsCommandLine words (command.AssumeInit of) = HasForm words (codes "init") 2 × IsNameAt words 1 of
-IsCommandLine words (command.WriteHeader of value) = HasForm words (codes "user") 3 × IsNameAt words 1 of × IsNumberAt words 2 value
+IsCommandLine words (command.WriteHeader of value) =
+    HasForm words (codes "user") 3 × IsNameAt words 1 of × IsNumberAt words 2 value
 -- `send N`, `copy N V`, `discard N`, `giveup N`: calls of a loan, a publisher or a blocked send.
 IsCommandLine words (command.Send of) = HasForm words (codes "send") 2 × IsNameAt words 1 of
-IsCommandLine words (command.SendCopy of value) = HasForm words (codes "copy") 3 × IsNameAt words 1 of × IsNumberAt words 2 value
+IsCommandLine words (command.SendCopy of value) =
+    HasForm words (codes "copy") 3 × IsNameAt words 1 of × IsNumberAt words 2 value
 IsCommandLine words (command.Discard of) = HasForm words (codes "discard") 2 × IsNameAt words 1 of
 IsCommandLine words (command.Retry of elapsed) = IsRetryLine words of elapsed
 IsCommandLine words (command.GiveUp of) = HasForm words (codes "giveup") 2 × IsNameAt words 1 of
@@ -179,16 +191,19 @@ IsCommandLine words (command.Update of) = HasForm words (codes "update") 2 × Is
 IsCommandLine words (command.Receive of) = HasForm words (codes "recv") 2 × IsNameAt words 1 of
 IsCommandLine words (command.HasSamples of) = HasForm words (codes "has") 2 × IsNameAt words 1 of
 IsCommandLine words (command.Close of) = HasForm words (codes "close") 2 × IsNameAt words 1 of
--- `deliver N C K`: loan N is sent into channel C of its publisher's connection K alone. `connection N Q`: the place of publisher N's
--- connection to the subscriber with the id Q.
+-- `deliver N C K`: loan N is sent into channel C of its publisher's connection K alone. `connection N Q`: the place of
+-- publisher N's connection to the subscriber with the id Q.
 IsCommandLine words (command.SendToConnection of channel connection) =
     HasForm words (codes "deliver") 4 × IsNameAt words 1 of × IsNumberAt words 2 channel × IsNumberAt words 3 connection
-IsCommandLine words (command.ConnectionPlace of receiver) = HasForm words (codes "connection") 3 × IsNameAt words 1 of × IsIdAt words 2 receiver
+IsCommandLine words (command.ConnectionPlace of receiver) =
+    HasForm words (codes "connection") 3 × IsNameAt words 1 of × IsIdAt words 2 receiver
 -- Calls on a channel: `.. N C V` of all connections of subscriber N, and `.. N C K V` of publisher N's connection K.
 IsCommandLine words (command.SubscriberChannel of channel call) =
-    (words.count ≡ 4) × IsNameAt words 1 of × IsNumberAt words 2 channel × IsNumber (words.word 3) × IsSubscriberCall (words.word 0) (value_of (words.word 3)) call
+    (words.count ≡ 4) × IsNameAt words 1 of × IsNumberAt words 2 channel × IsNumber (words.word 3)
+    × IsSubscriberCall (words.word 0) (value_of (words.word 3)) call
 IsCommandLine words (command.PublisherChannel of channel connection call) =
-    (words.count ≡ 5) × IsNameAt words 1 of × IsNumberAt words 2 channel × IsNumberAt words 3 connection × IsNumber (words.word 4)
+    (words.count ≡ 5) × IsNameAt words 1 of × IsNumberAt words 2 channel × IsNumberAt words 3 connection
+    × IsNumber (words.word 4)
     × IsPublisherCall (words.word 0) (value_of (words.word 4)) call
 -- `read ..`, `header N`, `user N`, `release N`: calls of a sample; all except the last of a loan too.
 IsCommandLine words (command.Read of at) = IsReadLine words of at

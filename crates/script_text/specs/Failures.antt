@@ -2,7 +2,8 @@
 use Rattle.std.specs.Prelude.{ℕ, List, ◌++◌, codes}
 use Rattle.std.specs.Fmt.{decimal}
 use Rattle.script_text.specs.declared.failure.ScriptError.{ScriptError}
-use Rattle.script_text.specs.declared.failure.ScriptError.TheVariants.{BadCommand, OutOfMemory, InputFailed, OutputFailed}
+use Rattle.script_text.specs.declared.failure.ScriptError.TheVariants.{BadCommand, OutOfMemory, InputFailed}
+use Rattle.script_text.specs.declared.failure.ScriptError.TheVariants.{OutputFailed}
 
 -- The exit status: 2 for a malformed line, 3 for a failed allocation, 4 for a failing stream.
 abbrev pub status_of : ScriptError → ℕ

@@ -2,7 +2,8 @@
 use Rattle.std.specs.Prelude.{ℕ, List, [], ◌∷◌, ◌++◌, codes, Some, None, true, false}
 use Rattle.std.specs.List.{flat_map}
 use Rattle.std.specs.Fmt.{decimal}
-use Rattle.iox2_machine.specs.ErrorTexts.{loan_error_text, send_error_text, receive_error_text, connection_failure_text, publisher_create_error_text, subscriber_create_error_text}
+use Rattle.iox2_machine.specs.ErrorTexts.{loan_error_text, send_error_text, receive_error_text, connection_failure_text}
+use Rattle.iox2_machine.specs.ErrorTexts.{publisher_create_error_text, subscriber_create_error_text}
 use Rattle.iox2_commands.specs.declared.reply.Reply.{Reply}
 use Rattle.iox2_commands.specs.declared.reply.Reply.TheVariants as reply
 
@@ -33,7 +34,8 @@ reply_text (reply.Place (Some place)) = codes "ok " ++ decimal place
 reply_text (reply.Cell None) = codes "none"
 reply_text (reply.Cell (Some value)) = codes "ok " ++ decimal value
 reply_text reply.Unwritten = codes "unwritten"
-reply_text (reply.Header header) = codes "ok " ++ decimal header.node_id ++ codes " " ++ decimal header.publisher_id ++ codes " " ++ decimal header.number_of_elements
+reply_text (reply.Header header) = codes "ok " ++ decimal header.node_id ++ codes " " ++ decimal header.publisher_id
+    ++ codes " " ++ decimal header.number_of_elements
 reply_text (reply.UserHeader value) = codes "ok " ++ decimal value
 
 -- A reply is printed on a line of its own, which a line feed ends.

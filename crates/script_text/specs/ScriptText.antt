@@ -5,7 +5,8 @@ use Rattle.iox2_machine.specs.declared.service_config.ServiceConfig.{ServiceConf
 use Rattle.iox2_commands.specs.declared.command.Command.{Command}
 use Rattle.script_text.specs.Commands.{NamesCommand, NamesDomain}
 use Rattle.script_text.specs.declared.failure.ScriptError.{ScriptError}
-use Rattle.script_text.specs.declared.failure.ScriptError.TheVariants.{BadCommand, OutOfMemory, InputFailed, OutputFailed}
+use Rattle.script_text.specs.declared.failure.ScriptError.TheVariants.{BadCommand, OutOfMemory, InputFailed}
+use Rattle.script_text.specs.declared.failure.ScriptError.TheVariants.{OutputFailed}
 
 -- Each line names the command at its position.
 abbrev pub NamesCommands : List (List ℕ) → List (Command ℕ ℕ) → Type 0
@@ -40,7 +41,8 @@ pub record HasBadCommand (text : List ℕ) (number : ℕ) : Type 0 where
   pub bad : (c : Command ℕ ℕ) → ¬ NamesCommand line c
   pub position : number ≡ length before + 2
 
--- The line with this number, counted from 1, is the first that isn't one of a script. A text without any line has it at 1.
+-- The line with this number, counted from 1, is the first that isn't one of a script. A text without any line has it at
+-- 1.
 abbrev pub IsMalformedAt : List ℕ → ℕ → Type 0
 IsMalformedAt text number = (number ≡ 1) × HasNoDomain (lines text) ⊎ HasBadCommand text number
 

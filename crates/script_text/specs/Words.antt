@@ -14,7 +14,8 @@ words_of texts = record { count = length texts; word = λ i. slice_index_or text
 
 -- The words of a list that code holds.
 abbrev pub words_in : List (Bor (List ℕ)) → Words
-words_in words = record { count = length words; word = λ i. (slice_index_or words i (record { ref_ptr = (0, 0); now = [] })).now }
+words_in words =
+    record { count = length words; word = λ i. (slice_index_or words i (record { ref_ptr = (0, 0); now = [] })).now }
 
 -- The bytes of the words that code holds.
 abbrev pub texts : List (Bor (List ℕ)) → List (List ℕ)

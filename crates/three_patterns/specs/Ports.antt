@@ -2,7 +2,8 @@
 use Rattle.std.specs.Prelude.{◌≡◌}
 use Rattle.iox2_pubsub.specs.Domains.{Kept}
 use Rattle.iox2_pubsub.specs.BorrowsLeft.{HasBorrowsLeft}
-use Rattle.iox2_pubsub.specs.Live.{HasItsBuffer, HasRoomFor, IsConnected, IsLivePublisher, IsLiveSubscriber, IsSingleValued}
+use Rattle.iox2_pubsub.specs.Live.{HasItsBuffer, HasRoomFor, IsConnected, IsLivePublisher, IsLiveSubscriber}
+use Rattle.iox2_pubsub.specs.Live.{IsSingleValued}
 use Rattle.iox2_pubsub.specs.LoansLeft.{HasLoansLeft}
 use Rattle.iox2_pubsub.specs.declared.publisher.Publisher.{Publisher}
 use Rattle.iox2_pubsub.specs.declared.subscriber.Subscriber.{Subscriber}
@@ -13,8 +14,8 @@ module _ {T U F G : Type 0} (domain : Kept T U F G) where
     pub single_valued : IsSingleValued domain
     pub borrows : (domain.config).subscriber_max_borrowed_samples ≡ 1
 
-  -- A message is a single value, and the subscriber is live, has its buffer, is not refused a sample, and loses nothing by its
-  -- next update.
+  -- A message is a single value, and the subscriber is live, has its buffer, is not refused a sample, and loses nothing
+  -- by its next update.
   pub record CanRead (subscriber : Subscriber) : Type 0 where
     pub single_valued : IsSingleValued domain
     pub live : IsLiveSubscriber domain subscriber

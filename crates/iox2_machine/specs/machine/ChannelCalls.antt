@@ -7,7 +7,8 @@ use Rattle.std.specs.declared.option.Option.{Option}
 use Rattle.std.specs.declared.option.Option.TheVariants.{None, Some}
 use Rattle.iox2_machine.specs.machine.Numbers.{contains, put_at}
 use Rattle.iox2_machine.specs.machine.Places.{occupant, is_port}
-use Rattle.iox2_machine.specs.machine.Channel.{Channel, closed_state, is_in_state, is_closed, is_hinted, with_state, with_hint, changed_if}
+use Rattle.iox2_machine.specs.machine.Channel.{Channel, closed_state, is_in_state, is_closed, is_hinted, with_state}
+use Rattle.iox2_machine.specs.machine.Channel.{with_hint, changed_if}
 use Rattle.iox2_machine.specs.machine.Records.{Publisher, Subscriber}
 use Rattle.iox2_machine.specs.machine.State.{State, connected_publishers, with_channels}
 
@@ -23,10 +24,12 @@ module _ {T U : Type 0} where
   abbrev pub senders_of : State T U → (q : ℕ) → List ℕ
   senders_of s q = option_map_or (λ (y : Subscriber). connected_publishers y) (s.subscribers q) []
 
-  -- The channel with that number is changed so at each connection of the subscriber q where it is in the state `expected`.
+  -- The channel with that number is changed so at each connection of the subscriber q where it is in the state
+  -- `expected`.
   abbrev pub received_changed : State T U → (q number expected : ℕ) → (Channel → Channel) → State T U
   received_changed s q number expected change = record s {
-    channels = λ p. put_at (s.channels p) q (if contains (senders_of s q) p then changed_if number expected change (s.channels p q) else s.channels p q);
+    channels = λ p. put_at (s.channels p) q
+        (if contains (senders_of s q) p then changed_if number expected change (s.channels p q) else s.channels p q);
   }
 
   -- `set_channel_state`: if the channel is closed, it comes into the state. It is told whether it was closed at each
@@ -60,14 +63,17 @@ module _ {T U : Type 0} where
 
   -- `has_channel_state`: there is an end at the place, and the channel is in the state there.
   abbrev pub has_channel_state : State T U → (p number place state : ℕ) → Bool
-  has_channel_state s p number place state = option_map_or (λ q. is_in_state state (s.channels p q number)) (receiver_at s p place) false
+  has_channel_state s p number place state =
+      option_map_or (λ q. is_in_state state (s.channels p q number)) (receiver_at s p place) false
 
   -- `has_disconnect_hint`: there is an end at the place, and the channel is in the state there and has a hint.
   abbrev pub has_disconnect_hint : State T U → (p number place state : ℕ) → Bool
-  has_disconnect_hint s p number place state = option_map_or (λ q. is_hinted state (s.channels p q number)) (receiver_at s p place) false
+  has_disconnect_hint s p number place state =
+      option_map_or (λ q. is_hinted state (s.channels p q number)) (receiver_at s p place) false
 
   -- `close_channel` of a publisher: if there is an end at the place, and the channel is in the state there, it is
   -- closed.
   abbrev pub sent_closed : State T U → (p number place expected : ℕ) → State T U
   sent_closed s p number place expected =
-      option_map_or (λ q. with_channels s p q (changed_if number expected (with_state closed_state) (s.channels p q))) (receiver_at s p place) s
+      option_map_or (λ q. with_channels s p q (changed_if number expected (with_state closed_state) (s.channels p q)))
+      (receiver_at s p place) s

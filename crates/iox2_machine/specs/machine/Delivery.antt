@@ -11,7 +11,9 @@ use Rattle.iox2_machine.specs.declared.service_config.ServiceConfig.{ServiceConf
 use Rattle.iox2_machine.specs.declared.backpressure.BackpressureStrategy.{BackpressureStrategy}
 use Rattle.iox2_machine.specs.declared.backpressure.BackpressureStrategy.TheVariants.{RetryUntilDelivered, DiscardData}
 use Rattle.iox2_machine.specs.declared.backpressure.BackpressureAction.{BackpressureAction}
-use Rattle.iox2_machine.specs.declared.backpressure.BackpressureAction.TheVariants.{FollowBackpressureyStrategy, Retry, DiscardData as Discard, DiscardDataAndFail}
+use Rattle.iox2_machine.specs.declared.backpressure.BackpressureAction.TheVariants.{FollowBackpressureyStrategy, Retry}
+use Rattle.iox2_machine.specs.declared.backpressure.BackpressureAction.TheVariants.{DiscardData as Discard}
+use Rattle.iox2_machine.specs.declared.backpressure.BackpressureAction.TheVariants.{DiscardDataAndFail}
 use Rattle.iox2_machine.specs.declared.backpressure.BackpressureInfo.{BackpressureInfo}
 
 -- What became of a message at one receiver.
@@ -61,19 +63,22 @@ by_action strategy Discard = Skipped
 by_action strategy DiscardDataAndFail = Failed
 
 -- With a full receiver the handler's answer decides, or the strategy if there is no handler.
-abbrev pub Decides : Environment → (p : ℕ) → Option (Handler BackpressureAction) → BackpressureStrategy → BackpressureInfo → PutResult → Type 0
+abbrev pub Decides : Environment → (p : ℕ) → Option (Handler BackpressureAction) → BackpressureStrategy
+    → BackpressureInfo → PutResult → Type 0
 Decides environment p None strategy info result = result ≡ by_strategy strategy
 Decides environment p (Some (Fixed action)) strategy info result = result ≡ by_action strategy action
 Decides environment p (Some Custom) strategy info result =
-    (action : BackpressureAction) × environment.backpressure_answers p info action × (result ≡ by_action strategy action)
+    (action : BackpressureAction) × environment.backpressure_answers p info action
+    × (result ≡ by_action strategy action)
 
 -- No time has passed.
 abbrev pub no_time : Duration
 no_time = record { secs = 0; nanos = 0 }
 
--- The message n of the publisher p, whose mailboxes stand by the subscriber's id; `buffers` has those of open subscribers
--- whose channel isn't closed.
-module _ (environment : Environment) (c : ServiceConfig) (p : ℕ) (strategy : BackpressureStrategy) (handler : Option (Handler BackpressureAction)) (buffers : ℕ → Option ℕ) (n : ℕ) where
+-- The message n of the publisher p, whose mailboxes stand by the subscriber's id; `buffers` has those of open
+-- subscribers whose channel isn't closed.
+module _ (environment : Environment) (c : ServiceConfig) (p : ℕ) (strategy : BackpressureStrategy)
+    (handler : Option (Handler BackpressureAction)) (buffers : ℕ → Option ℕ) (n : ℕ) where
   -- What the handler is told of the receiver q.
   abbrev pub info_of : (q retries : ℕ) → Duration → BackpressureInfo
   info_of q retries elapsed = record {
@@ -94,20 +99,33 @@ module _ (environment : Environment) (c : ServiceConfig) (p : ℕ) (strategy : B
       (Decides environment p handler strategy (info_of q retries elapsed) result × (box' ≡ box))
 
   -- The message is put into the channel of the mailbox to which the end leads; if there is none, nothing happens.
-  abbrev pub PutAtEnd : (channel retries : ℕ) → Duration → (end : Option ℕ) → (ℕ → Mailbox) → PutResult → (ℕ → Mailbox) → Type 0
+  abbrev pub PutAtEnd : (channel retries : ℕ) → Duration → (end : Option ℕ) → (ℕ → Mailbox) → PutResult → (ℕ → Mailbox)
+      → Type 0
   PutAtEnd channel retries elapsed end boxes result boxes' =
       MatchOption end
       ((result ≡ Skipped) × (boxes' ≡ boxes))
-      (λ q. (box : Mailbox) × Put channel q retries elapsed (buffers q) (boxes q) result box × (boxes' ≡ put_at boxes q box))
+      (λ q. (box : Mailbox) × Put channel q retries elapsed (buffers q) (boxes q) result box
+      × (boxes' ≡ put_at boxes q box))
 
-  -- The message is put into that channel at each of these ends in turn, which stand from that place on, until a receiver
-  -- blocks it. The first is asked with these retries and this elapsed time, the others anew.
+  -- The message is put into that channel at each of these ends in turn, which stand from that place on, until a
+  -- receiver blocks it. The first is asked with these retries and this elapsed time, the others anew.
   -- (iceoryx2: `port/details/sender.rs`, `deliver_offset`.)
-  abbrev pub Deliver : (channel retries : ℕ) → Duration → (place : ℕ) → List (Option ℕ) → (count : ℕ) → (has_failed : Bool) → (ℕ → Mailbox) → DeliveryEnd → (ℕ → Mailbox) → Type 0
-  Deliver channel retries elapsed place [] count has_failed boxes how boxes' = (how ≡ Complete count has_failed) × (boxes' ≡ boxes)
+  abbrev pub Deliver : (channel retries : ℕ) → Duration → (place : ℕ) → List (Option ℕ) → (count : ℕ)
+      → (has_failed : Bool) → (ℕ → Mailbox) → DeliveryEnd → (ℕ → Mailbox) → Type 0
+  Deliver channel retries elapsed place [] count has_failed boxes how boxes' =
+      (how ≡ Complete count has_failed) × (boxes' ≡ boxes)
   Deliver channel retries elapsed place (end ∷ rest) count has_failed boxes how boxes' =
       (result : PutResult) × (mid : ℕ → Mailbox) × PutAtEnd channel retries elapsed end boxes result mid
       × MatchBool (is_blocking result)
-      ((how ≡ Suspended (record { message = n; channel = channel; place = place; ends = end ∷ rest; retries = retries; count = count; has_failed = has_failed }))
+      ((how ≡ Suspended (record {
+        message = n;
+        channel = channel;
+        place = place;
+        ends = end ∷ rest;
+        retries = retries;
+        count = count;
+        has_failed = has_failed;
+      }))
       × (boxes' ≡ mid))
-      (Deliver channel 0 no_time (place + 1) rest (count + accepted_count result) (has_failed || is_failed result) mid how boxes')
+      (Deliver channel 0 no_time (place + 1) rest (count + accepted_count result)
+      (has_failed || is_failed result) mid how boxes')

@@ -6,8 +6,8 @@ use Rattle.iox2_machine.specs.declared.service_config.ServiceConfig.{ServiceConf
 abbrev pub buffer_limit : ServiceConfig → ℕ
 buffer_limit c = max 1 c.subscriber_max_buffer_size
 
--- The limit of the departed publishers that a subscriber keeps: it is at least the number of messages that may be borrowed of
--- one publisher.
+-- The limit of the departed publishers that a subscriber keeps: it is at least the number of messages that may be
+-- borrowed of one publisher.
 -- (iceoryx2: `port/subscriber.rs`, `Subscriber::new`, which raises the setting and warns.)
 abbrev pub expired_limit : ServiceConfig → ℕ
 expired_limit c = max c.subscriber_expired_connection_buffer c.subscriber_max_borrowed_samples
@@ -18,7 +18,8 @@ channel_count c = max 1 c.number_of_channels
 
 -- For each channel of each subscriber its buffer and what it may borrow; then the history; then the loans.
 abbrev pub worst_case : ServiceConfig → (loans : ℕ) → ℕ
-worst_case c loans = c.max_subscribers * channel_count c * (buffer_limit c + c.subscriber_max_borrowed_samples) + c.history_size + loans
+worst_case c loans =
+    c.max_subscribers * channel_count c * (buffer_limit c + c.subscriber_max_borrowed_samples) + c.history_size + loans
 
 -- A counter of ports or messages ends here: this number is never given out.
 abbrev pub last_number : ℕ

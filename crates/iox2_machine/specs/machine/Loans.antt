@@ -1,5 +1,6 @@
 -- A loan is granted, changed and given back.
-use Rattle.std.specs.Prelude.{ℕ, Bool, true, false, if◌then◌else◌, ◌&&◌, [], ◌∷◌, ◌++◌, length, replicate, ◌≡◌, ◌⊎◌, ◌+◌, ◌*◌, ◌^◌, ◌<◌, ◌≤◌, ◌==◌, max, nat_lt, nat_le, MatchOption, slice_set, is_some}
+use Rattle.std.specs.Prelude.{ℕ, Bool, true, false, if◌then◌else◌, ◌&&◌, [], ◌∷◌, ◌++◌, length, replicate, ◌≡◌, ◌⊎◌}
+use Rattle.std.specs.Prelude.{◌+◌, ◌*◌, ◌^◌, ◌<◌, ◌≤◌, ◌==◌, max, nat_lt, nat_le, MatchOption, slice_set, is_some}
 use Rattle.std.specs.Bool.{MatchBool}
 use Rattle.std.specs.List.{list_all, filter_map}
 use Rattle.std.specs.declared.option.Option.{Option}
@@ -12,7 +13,8 @@ use Rattle.iox2_machine.specs.declared.service_config.ServiceConfig.{ServiceConf
 use Rattle.iox2_machine.specs.declared.allocation.AllocationStrategy.{AllocationStrategy}
 use Rattle.iox2_machine.specs.declared.allocation.AllocationStrategy.TheVariants.{Static, BestFit, PowerOfTwo}
 use Rattle.iox2_machine.specs.declared.errors.LoanError.{LoanError}
-use Rattle.iox2_machine.specs.declared.errors.LoanError.TheVariants.{OutOfMemory, ExceedsMaxLoans, ExceedsMaxLoanSize, InternalFailure}
+use Rattle.iox2_machine.specs.declared.errors.LoanError.TheVariants.{OutOfMemory, ExceedsMaxLoans, ExceedsMaxLoanSize}
+use Rattle.iox2_machine.specs.declared.errors.LoanError.TheVariants.{InternalFailure}
 
 -- A static publisher has one segment for its whole life.
 abbrev pub is_static : AllocationStrategy → Bool
@@ -24,7 +26,8 @@ is_static PowerOfTwo = false
 -- (iceoryx2: `port/publisher.rs`, `loan_slice_uninit_impl`, and `port/details/sender.rs`, `allocate`.)
 abbrev pub limit_error : (checks_length : Bool) → Publisher → (len : ℕ) → Option LoanError
 limit_error checks_length x len =
-    if checks_length && is_static x.allocation_strategy && nat_lt x.initial_max_slice_len len then Some ExceedsMaxLoanSize
+    if checks_length && is_static x.allocation_strategy
+    && nat_lt x.initial_max_slice_len len then Some ExceedsMaxLoanSize
     else if nat_le x.max_loaned_samples (length x.loans) then Some ExceedsMaxLoans else None
 
 -- The longest length that the publisher's segments are known to have.
@@ -39,7 +42,8 @@ NoSegmentFits c x len = by (x.allocation_strategy)
     by : AllocationStrategy → Type 0
     by Static = ⊥
     by BestFit = segment_fits c x.slots (max (known_length x) len) ≡ false
-    by PowerOfTwo = (exponent : ℕ) → max (known_length x) len ≤ 2 ^ exponent → segment_fits c x.slots (2 ^ exponent) ≡ false
+    by PowerOfTwo =
+        (exponent : ℕ) → max (known_length x) len ≤ 2 ^ exponent → segment_fits c x.slots (2 ^ exponent) ≡ false
 
 module _ {T U : Type 0} where
   -- A loan of that length with unwritten cells and a default user header is out, under the counter's next number. Its
@@ -63,7 +67,8 @@ module _ {T U : Type 0} where
 
   -- Past the limits, a static publisher's loan is refused exactly if it holds as many different messages and loans as
   -- it has slots, or if the message counter is at its end.
-  abbrev pub StaticLoan : (default_header : U) → State T U → (p : ℕ) → Publisher → (len : ℕ) → State T U → Option LoanError → Type 0
+  abbrev pub StaticLoan : (default_header : U) → State T U → (p : ℕ) → Publisher → (len : ℕ) → State T U
+      → Option LoanError → Type 0
   StaticLoan default_header s p x len s' refusal =
       MatchBool (size (held s p x) == x.slots)
       ((s' ≡ s) × (refusal ≡ Some OutOfMemory))
@@ -75,24 +80,30 @@ module _ {T U : Type 0} where
   abbrev pub IsGuaranteed : State T U → (p : ℕ) → Publisher → (len : ℕ) → Type 0
   IsGuaranteed s p x len = (size (held s p x) < x.slots) × (len ≤ known_length x)
 
-  -- Past the limits, a dynamic publisher grants a loan with the segments that it has, or with one more. A guaranteed loan
-  -- needs no further segment, and is refused only if the message counter is at its end. A loan that isn't guaranteed is
-  -- granted only if a segment of its length fits. `OutOfMemory` is returned only if all segments were made, and
+  -- Past the limits, a dynamic publisher grants a loan with the segments that it has, or with one more. A guaranteed
+  -- loan needs no further segment, and is refused only if the message counter is at its end. A loan that isn't
+  -- guaranteed is granted only if a segment of its length fits. `OutOfMemory` is returned only if all segments were
+  -- made, and
   -- `InternalFailure` only if memory is refused, no segment fits or the counter is at its end.
-  abbrev pub DynamicLoan : Environment → (default_header : U) → State T U → (p : ℕ) → Publisher → (len : ℕ) → State T U → Option LoanError → Type 0
+  abbrev pub DynamicLoan : Environment → (default_header : U) → State T U → (p : ℕ) → Publisher → (len : ℕ) → State T U
+      → Option LoanError → Type 0
   DynamicLoan environment default_header s p x len s' None =
-      (s.next_message < last_number) × (IsGuaranteed s p x len ⊎ (segment_fits s.config x.slots len ≡ true)) × (segments : ℕ)
-      × ((segments ≡ x.segments) ⊎ ((segments ≡ x.segments + 1) × (x.segments < segment_limit) × ¬ (IsGuaranteed s p x len)))
+      (s.next_message < last_number) × (IsGuaranteed s p x len ⊎ (segment_fits s.config x.slots len ≡ true))
+      × (segments : ℕ)
+      × ((segments ≡ x.segments)
+      ⊎ ((segments ≡ x.segments + 1) × (x.segments < segment_limit) × ¬ (IsGuaranteed s p x len)))
       × (s' ≡ loan_granted default_header s p x len segments)
   DynamicLoan environment default_header s p x len s' (Some OutOfMemory) =
       (s' ≡ s) × (x.segments ≡ segment_limit) × (IsGuaranteed s p x len → s.next_message ≡ last_number)
   DynamicLoan environment default_header s p x len s' (Some InternalFailure) =
-      (s' ≡ s) × ((s.next_message ≡ last_number) ⊎ ((environment.may_refuse_memory ⊎ NoSegmentFits s.config x len) × ¬ (IsGuaranteed s p x len)))
+      (s' ≡ s) × ((s.next_message ≡ last_number)
+      ⊎ ((environment.may_refuse_memory ⊎ NoSegmentFits s.config x len) × ¬ (IsGuaranteed s p x len)))
   DynamicLoan environment default_header s p x len s' (Some ExceedsMaxLoans) = ⊥
   DynamicLoan environment default_header s p x len s' (Some ExceedsMaxLoanSize) = ⊥
 
   -- The publisher p is asked for a loan of that length: first come the limits, then memory.
-  abbrev pub GrantLoan : Environment → (default_header : U) → (checks_length : Bool) → (len : ℕ) → State T U → (p : ℕ) → State T U → Option LoanError → Type 0
+  abbrev pub GrantLoan : Environment → (default_header : U) → (checks_length : Bool) → (len : ℕ) → State T U → (p : ℕ)
+      → State T U → Option LoanError → Type 0
   GrantLoan environment default_header checks_length len s p s' refusal =
       MatchOption (s.publishers p) ⊥ (λ x.
       MatchOption (limit_error checks_length x len)

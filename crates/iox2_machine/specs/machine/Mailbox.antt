@@ -1,5 +1,6 @@
 -- What lies between one publisher and one subscriber: numbers of messages. Only this file looks into a mailbox.
-use Rattle.std.specs.Prelude.{ℕ, zero, suc, Bool, not, ◌&&◌, List, [], ◌∷◌, ◌++◌, length, drop, map, if◌then◌else◌, ◌≡◌, ◌≤◌, ◌==◌, nat_lt}
+use Rattle.std.specs.Prelude.{ℕ, zero, suc, Bool, not, ◌&&◌, List, [], ◌∷◌, ◌++◌, length, drop, map, if◌then◌else◌, ◌≡◌}
+use Rattle.std.specs.Prelude.{◌≤◌, ◌==◌, nat_lt}
 use Rattle.std.specs.List.{filter}
 use Rattle.iox2_machine.specs.machine.Numbers.{contains, without, is_nil, IsOnce}
 
@@ -23,13 +24,15 @@ empty_mailbox = record { waiting = []; borrowed = []; others = [] }
 
 -- What waits in this channel, oldest first.
 abbrev pub numbers_of : (channel : ℕ) → List ChannelNumber → List ℕ
-numbers_of channel others = map (λ (m : ChannelNumber). m.number) (filter (λ (m : ChannelNumber). m.channel == channel) others)
+numbers_of channel others =
+    map (λ (m : ChannelNumber). m.number) (filter (λ (m : ChannelNumber). m.channel == channel) others)
 
 -- In this channel these numbers wait, and no others; the other channels stay as they are.
 abbrev pub with_numbers_of : (channel : ℕ) → List ℕ → List ChannelNumber → List ChannelNumber
 with_numbers_of channel ns others =
     filter (λ (m : ChannelNumber). nat_lt m.channel channel) others
-    ++ (map (λ n. record { channel = channel; number = n }) ns ++ filter (λ (m : ChannelNumber). nat_lt channel m.channel) others)
+    ++ (map (λ n. record { channel = channel; number = n }) ns ++ filter
+    (λ (m : ChannelNumber). nat_lt channel m.channel) others)
 
 -- ---- reading
 
@@ -88,7 +91,8 @@ with_waiting_in (suc k) ns box = record box { others = with_numbers_of (suc k) n
 -- The number waits as the last in the channel; if there was no room, the first leaves.
 abbrev pub with_appended : (channel buffer n : ℕ) → Mailbox → Mailbox
 with_appended channel buffer n box =
-    with_waiting_in channel ((if has_room channel buffer box then waiting_in channel box else drop 1 (waiting_in channel box)) ++ n ∷ []) box
+    with_waiting_in channel
+    ((if has_room channel buffer box then waiting_in channel box else drop 1 (waiting_in channel box)) ++ n ∷ []) box
 
 -- These numbers wait in channel 0, and no others.
 abbrev pub with_waiting : List ℕ → Mailbox → Mailbox
@@ -101,7 +105,8 @@ waiting_dropped box = record box { waiting = []; others = [] }
 -- The first number that waits becomes borrowed.
 abbrev pub BorrowsFirst : Mailbox → (n : ℕ) → Mailbox → Type 0
 BorrowsFirst box n box' =
-    (rest : List ℕ) × (box.waiting ≡ n ∷ rest) × (box' ≡ record box { waiting = rest; borrowed = box.borrowed ++ n ∷ [] })
+    (rest : List ℕ) × (box.waiting ≡ n ∷ rest)
+    × (box' ≡ record box { waiting = rest; borrowed = box.borrowed ++ n ∷ [] })
 
 -- The number is no longer borrowed.
 abbrev pub with_released : ℕ → Mailbox → Mailbox
@@ -123,4 +128,5 @@ other_room channels buffer (suc k) = if nat_lt (suc k) channels then buffer else
 
 -- No more than that wait in each of the other channels, which are numbered from 1 to below `channels`.
 abbrev pub OthersWithin : (channels buffer : ℕ) → Mailbox → Type 0
-OthersWithin channels buffer box = (channel : ℕ) → length (numbers_of channel box.others) ≤ other_room channels buffer channel
+OthersWithin channels buffer box =
+    (channel : ℕ) → length (numbers_of channel box.others) ≤ other_room channels buffer channel

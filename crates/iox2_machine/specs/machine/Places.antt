@@ -1,4 +1,5 @@
--- Places: a list has at each place the id of the port that stands there, or nothing. It is as long as places were ever taken.
+-- Places: a list has at each place the id of the port that stands there, or nothing. It is as long as places were ever
+-- taken.
 use Rattle.std.specs.Prelude.{ℕ, zero, suc, Bool, false, if◌then◌else◌, List, [], ◌∷◌, map, ◌==◌, nat_lt}
 use Rattle.std.specs.declared.option.Option.{Option}
 use Rattle.std.specs.declared.option.Option.TheVariants.{None, Some}

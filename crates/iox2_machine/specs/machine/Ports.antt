@@ -1,5 +1,6 @@
 -- Ports are made and closed.
-use Rattle.std.specs.Prelude.{ℕ, Bool, true, false, if◌then◌else◌, ◌&&◌, [], ◌≡◌, ◌⊎◌, ◌+◌, ◌==◌, min, max, nat_lt, MatchOption}
+use Rattle.std.specs.Prelude.{ℕ, Bool, true, false, if◌then◌else◌, ◌&&◌, [], ◌≡◌, ◌⊎◌, ◌+◌, ◌==◌, min, max, nat_lt}
+use Rattle.std.specs.Prelude.{MatchOption}
 use Rattle.std.specs.Bool.{MatchBool}
 use Rattle.std.specs.Option.{option_map, option_map_or}
 use Rattle.std.specs.declared.option.Option.{Option}
@@ -8,8 +9,10 @@ use Rattle.iox2_machine.specs.machine.Limits.{buffer_limit, worst_case, last_num
 use Rattle.iox2_machine.specs.machine.Numbers.{put_at}
 use Rattle.iox2_machine.specs.machine.Places.{occupant, is_port, vacated, free_place, set_place}
 use Rattle.iox2_machine.specs.machine.Mailbox.{Mailbox, waiting_dropped}
-use Rattle.iox2_machine.specs.machine.Records.{Publisher, Subscriber, PublisherSettings, SubscriberSettings, Fixed, Environment}
-use Rattle.iox2_machine.specs.machine.State.{State, with_warning, is_present, publishers_due, subscribers_due, sender_channels_reset, receiver_channels_reset}
+use Rattle.iox2_machine.specs.machine.Records.{Publisher, Subscriber, PublisherSettings, SubscriberSettings, Fixed}
+use Rattle.iox2_machine.specs.machine.Records.{Environment}
+use Rattle.iox2_machine.specs.machine.State.{State, with_warning, is_present, publishers_due, subscribers_due}
+use Rattle.iox2_machine.specs.machine.State.{sender_channels_reset, receiver_channels_reset}
 use Rattle.iox2_machine.specs.machine.PublisherUpdate.{UpdatePublisher}
 use Rattle.iox2_machine.specs.machine.SubscriberUpdate.{UpdateSubscriber}
 use Rattle.iox2_machine.specs.machine.Releases.{pruned, freed_if_unused, subscriber_pruned}
@@ -17,11 +20,18 @@ use Rattle.iox2_machine.specs.declared.service_config.ServiceConfig.{ServiceConf
 use Rattle.iox2_machine.specs.declared.degradation.DegradationAction.TheVariants.{Warn}
 use Rattle.iox2_machine.specs.declared.errors.ConnectionFailure.{ConnectionFailure}
 use Rattle.iox2_machine.specs.declared.errors.PublisherCreateError.{PublisherCreateError}
-use Rattle.iox2_machine.specs.declared.errors.PublisherCreateError.TheVariants.{UnableToCreatePortTag as NoPublisherTag, ExceedsMaxSupportedPublishers, UnableToCreateDataSegment, FailedToDeployThreadsafetyPolicy as NoPublisherState}
+use Rattle.iox2_machine.specs.declared.errors.PublisherCreateError.TheVariants.{UnableToCreatePortTag as NoPublisherTag}
+use Rattle.iox2_machine.specs.declared.errors.PublisherCreateError.TheVariants.{ExceedsMaxSupportedPublishers}
+use Rattle.iox2_machine.specs.declared.errors.PublisherCreateError.TheVariants.{UnableToCreateDataSegment}
+use Rattle.iox2_machine.specs.declared.errors.PublisherCreateError.TheVariants.{FailedToDeployThreadsafetyPolicy as NoPublisherState}
 use Rattle.iox2_machine.specs.declared.errors.SubscriberCreateError.{SubscriberCreateError}
-use Rattle.iox2_machine.specs.declared.errors.SubscriberCreateError.TheVariants.{UnableToCreatePortTag as NoSubscriberTag, BufferSizeExceedsMaxSupportedBufferSizeOfService, ExceedsMaxSupportedSubscribers, FailedToDeployThreadsafetyPolicy as NoSubscriberState}
+use Rattle.iox2_machine.specs.declared.errors.SubscriberCreateError.TheVariants.{UnableToCreatePortTag as NoSubscriberTag}
+use Rattle.iox2_machine.specs.declared.errors.SubscriberCreateError.TheVariants.{BufferSizeExceedsMaxSupportedBufferSizeOfService}
+use Rattle.iox2_machine.specs.declared.errors.SubscriberCreateError.TheVariants.{ExceedsMaxSupportedSubscribers}
+use Rattle.iox2_machine.specs.declared.errors.SubscriberCreateError.TheVariants.{FailedToDeployThreadsafetyPolicy as NoSubscriberState}
 use Rattle.iox2_machine.specs.declared.warning.Warning.{Warning}
-use Rattle.iox2_machine.specs.declared.warning.Warning.TheVariants.{PublisherPartlyConnected, SubscriberPartlyConnected, ExpiredBufferRaised}
+use Rattle.iox2_machine.specs.declared.warning.Warning.TheVariants.{PublisherPartlyConnected, SubscriberPartlyConnected}
+use Rattle.iox2_machine.specs.declared.warning.Warning.TheVariants.{ExpiredBufferRaised}
 
 -- A publisher's factory begins with the service's settings.
 -- (iceoryx2: `service/port_factory/publisher.rs`, `PortFactoryPublisher::new`.)
@@ -45,11 +55,13 @@ default_subscriber_settings c = record { buffer_size = buffer_limit c; degradati
 -- one if the worst case isn't none.
 -- (iceoryx2: `service/port_factory/publisher.rs`, `override_sample_preallocation`.)
 abbrev pub slots_for : ServiceConfig → PublisherSettings → ℕ
-slots_for c given = option_map_or (λ asked. min (worst_case c given.max_loaned_samples) (max 1 asked)) given.asked_slots (worst_case c given.max_loaned_samples)
+slots_for c given = option_map_or (λ asked. min (worst_case c given.max_loaned_samples) (max 1 asked)) given.asked_slots
+    (worst_case c given.max_loaned_samples)
 
 -- The worst case and the first segment fit a machine word.
 abbrev pub first_segment_fits : ServiceConfig → PublisherSettings → Bool
-first_segment_fits c given = fits (worst_case c given.max_loaned_samples) && segment_fits c (slots_for c given) given.initial_max_slice_len
+first_segment_fits c given =
+    fits (worst_case c given.max_loaned_samples) && segment_fits c (slots_for c given) given.initial_max_slice_len
 
 -- A buffer of none means one.
 abbrev pub buffer_for : SubscriberSettings → ℕ
@@ -175,7 +187,8 @@ module _ {T U : Type 0} (environment : Environment) where
       × (s' ≡ with_failure_warning mid (SubscriberPartlyConnected q) failure)
 
   -- Past the other refusals, a publisher is made at the place; or memory is refused for its segment or its state.
-  abbrev pub MakePublisher : State T U → PublisherSettings → (place : ℕ) → State T U → Option PublisherCreateError → Type 0
+  abbrev pub MakePublisher : State T U → PublisherSettings → (place : ℕ) → State T U → Option PublisherCreateError
+      → Type 0
   MakePublisher s given place s' None = FirstPublisherUpdate (with_new_publisher s given place) s.next_port s'
   MakePublisher s given place s' (Some e) =
       environment.may_refuse_memory × (s' ≡ s) × ((e ≡ UnableToCreateDataSegment) ⊎ (e ≡ NoPublisherState))
@@ -186,22 +199,26 @@ module _ {T U : Type 0} (environment : Environment) where
   abbrev pub CreatePublisher : State T U → PublisherSettings → State T U → Option PublisherCreateError → Type 0
   CreatePublisher s given s' refusal =
       MatchBool (s.next_port == last_number) ((s' ≡ s) × (refusal ≡ Some NoPublisherTag))
-      (MatchOption (free_place (s.config).max_publishers s.publisher_places) ((s' ≡ s) × (refusal ≡ Some ExceedsMaxSupportedPublishers)) (λ place.
+      (MatchOption (free_place (s.config).max_publishers s.publisher_places)
+      ((s' ≡ s) × (refusal ≡ Some ExceedsMaxSupportedPublishers)) (λ place.
       MatchBool (first_segment_fits s.config given)
       (MakePublisher s given place s' refusal)
       ((s' ≡ s) × (refusal ≡ Some UnableToCreateDataSegment))))
 
   -- Past the other refusals, a subscriber is made at the place; or memory is refused for its state.
-  abbrev pub MakeSubscriber : State T U → SubscriberSettings → (place : ℕ) → State T U → Option SubscriberCreateError → Type 0
+  abbrev pub MakeSubscriber : State T U → SubscriberSettings → (place : ℕ) → State T U → Option SubscriberCreateError
+      → Type 0
   MakeSubscriber s given place s' None = FirstSubscriberUpdate (with_new_subscriber s given place) s.next_port s'
   MakeSubscriber s given place s' (Some e) = environment.may_refuse_memory × (s' ≡ s) × (e ≡ NoSubscriberState)
 
-  -- A subscriber is made, with the counter's next id at the lowest free place, or it is refused: because of the counter,
-  -- then its buffer, then the number of subscribers, then memory.
+  -- A subscriber is made, with the counter's next id at the lowest free place, or it is refused: because of the
+  -- counter, then its buffer, then the number of subscribers, then memory.
   -- (iceoryx2: `port/subscriber.rs`, `Subscriber::new`.)
   abbrev pub CreateSubscriber : State T U → SubscriberSettings → State T U → Option SubscriberCreateError → Type 0
   CreateSubscriber s given s' refusal =
       MatchBool (s.next_port == last_number) ((s' ≡ s) × (refusal ≡ Some NoSubscriberTag))
-      (MatchBool (nat_lt (buffer_limit s.config) (buffer_for given)) ((s' ≡ s) × (refusal ≡ Some BufferSizeExceedsMaxSupportedBufferSizeOfService))
-      (MatchOption (free_place (s.config).max_subscribers s.subscriber_places) ((s' ≡ s) × (refusal ≡ Some ExceedsMaxSupportedSubscribers)) (λ place.
+      (MatchBool (nat_lt (buffer_limit s.config) (buffer_for given))
+      ((s' ≡ s) × (refusal ≡ Some BufferSizeExceedsMaxSupportedBufferSizeOfService))
+      (MatchOption (free_place (s.config).max_subscribers s.subscriber_places)
+      ((s' ≡ s) × (refusal ≡ Some ExceedsMaxSupportedSubscribers)) (λ place.
       MakeSubscriber s given place s' refusal)))

@@ -54,9 +54,10 @@ connected history side place q buffer = record side {
   mailboxes = put_at side.mailboxes q (with_waiting (last_n buffer history) (side.mailboxes q));
 }
 
--- The update of the publisher p with that handler; `histories` has what is handed out to a new receiver, `buffers` has those
--- of open subscribers, and `has_receiver_end` says which subscribers have their end of the mailbox already.
-module _ (environment : Environment) (service_id p : ℕ) (handler : Handler DegradationAction) (histories : ℕ → List ℕ) (buffers : ℕ → Option ℕ) (has_receiver_end : ℕ → Bool) where
+-- The update of the publisher p with that handler; `histories` has what is handed out to a new receiver, `buffers` has
+-- those of open subscribers, and `has_receiver_end` says which subscribers have their end of the mailbox already.
+module _ (environment : Environment) (service_id p : ℕ) (handler : Handler DegradationAction) (histories : ℕ → List ℕ)
+    (buffers : ℕ → Option ℕ) (has_receiver_end : ℕ → Bool) where
   -- The end to q is made. If q has no end either, memory may be refused instead.
   abbrev pub ConnectSender : SenderSide → (place q buffer : ℕ) → SenderSide → Option ConnectionFailure → Type 0
   ConnectSender side place q buffer side' failure =
@@ -69,12 +70,14 @@ module _ (environment : Environment) (service_id p : ℕ) (handler : Handler Deg
   abbrev pub Performs : SenderAction → (place : ℕ) → SenderSide → SenderSide → Option ConnectionFailure → Type 0
   Performs Keep_end place side side' failure = (side' ≡ side) × (failure ≡ None)
   Performs (Drop_waiting q) place side side' failure = (side' ≡ dropped side q) × (failure ≡ None)
-  Performs Disconnect place side side' failure = (side' ≡ disconnected side place (occupant side.ends place)) × (failure ≡ None)
+  Performs Disconnect place side side' failure =
+      (side' ≡ disconnected side place (occupant side.ends place)) × (failure ≡ None)
   Performs (Connect q buffer) place side side' failure =
       ConnectSender (disconnected side place (occupant side.ends place)) place q buffer side' failure
 
   -- What is to be done at the place is done.
-  abbrev pub UpdateSenderPlace : (place : ℕ) → (at : Option ℕ) → SenderSide → SenderSide → Option ConnectionFailure → Type 0
+  abbrev pub UpdateSenderPlace : (place : ℕ) → (at : Option ℕ) → SenderSide → SenderSide → Option ConnectionFailure
+      → Type 0
   UpdateSenderPlace place at side side' failure =
       Performs (sender_action buffers at (occupant side.ends place)) place side side' failure
 
@@ -102,7 +105,8 @@ module _ {T U : Type 0} where
       MatchOption (s.publishers p) ⊥ (λ x.
       MatchBool x.is_due
       ((side : SenderSide)
-      × ForEachPlace (UpdateSenderPlace environment (s.config).service_id p x.degradation_handler (history_for s p x) (receiving_buffer s) (has_receiver_end s p))
+      × ForEachPlace (UpdateSenderPlace environment (s.config).service_id p x.degradation_handler (history_for s p x)
+      (receiving_buffer s) (has_receiver_end s p))
       0 s.subscriber_places (sender_side s p x) side failure
       × (s' ≡ sender_channels_reset (with_sender_side s p x side) p))
       ((s' ≡ s) × (failure ≡ None)))

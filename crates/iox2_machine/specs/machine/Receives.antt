@@ -12,7 +12,8 @@ use Rattle.iox2_machine.specs.machine.State.{State, connected_publishers, with_m
 use Rattle.iox2_machine.specs.machine.SubscriberUpdate.{UpdateSubscriber}
 use Rattle.iox2_machine.specs.declared.errors.ConnectionFailure.{ConnectionFailure}
 use Rattle.iox2_machine.specs.declared.errors.ReceiveError.{ReceiveError}
-use Rattle.iox2_machine.specs.declared.errors.ReceiveError.TheVariants.{ExceedsMaxBorrows, ConnectionFailure as CouldNotConnect}
+use Rattle.iox2_machine.specs.declared.errors.ReceiveError.TheVariants.{ExceedsMaxBorrows}
+use Rattle.iox2_machine.specs.declared.errors.ReceiveError.TheVariants.{ConnectionFailure as CouldNotConnect}
 
 -- The result of a receive.
 pub data ReceiveResult : Type 0 where
@@ -48,7 +49,8 @@ module _ {T U : Type 0} where
   TakeSample s q y s' (Receive_error e) =
       (e ≡ ExceedsMaxBorrows)
       × (has_any_data y (λ p. s.mailboxes p q) ≡ true)
-      × (can_receive_of (s.config).subscriber_max_borrowed_samples y (λ p. s.mailboxes p q) (connected_publishers y) ≡ false)
+      × (can_receive_of (s.config).subscriber_max_borrowed_samples y (λ p. s.mailboxes p q)
+      (connected_publishers y) ≡ false)
       × (s' ≡ s)
 
 module _ {T U : Type 0} (environment : Environment) where

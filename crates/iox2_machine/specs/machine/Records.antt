@@ -1,4 +1,5 @@
--- Ports, loans and messages as the machine knows them. A port is named by its id and a message by its number: both are plain numbers.
+-- Ports, loans and messages as the machine knows them. A port is named by its id and a message by its number: both are
+-- plain numbers.
 use Rattle.std.specs.Prelude.{ℕ, Bool, List}
 use Rattle.std.specs.declared.option.Option.{Option}
 use Rattle.iox2_machine.specs.declared.header.Header.{Header}
@@ -44,7 +45,8 @@ pub record BlockedSend : Type 0 where
   pub message : ℕ
   pub channel : ℕ  -- into which it is put: 0, but where it was sent to one connection
   pub place : ℕ  -- of the receiver that it waits for
-  pub ends : List (Option ℕ)  -- the sender's ends that remain, from that place on; that end alone where it was sent to one connection
+  -- the sender's ends that remain, from that place on; that end alone where it was sent to one connection
+  pub ends : List (Option ℕ)
   pub retries : ℕ  -- how often the receiver was asked again
   pub count : ℕ  -- the receivers that have taken the message so far
   pub has_failed : Bool  -- whether an earlier receiver's handler failed the send

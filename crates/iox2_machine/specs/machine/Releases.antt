@@ -7,7 +7,8 @@ use Rattle.iox2_machine.specs.machine.Numbers.{put_at}
 use Rattle.iox2_machine.specs.machine.Places.{places_kept, vacated}
 use Rattle.iox2_machine.specs.machine.Mailbox.{has_numbers, has_borrows, with_released}
 use Rattle.iox2_machine.specs.machine.Records.{Subscriber}
-use Rattle.iox2_machine.specs.machine.State.{State, is_present, connected_publishers, with_mailbox, subscriber_changed, publishers_due, receiver_channels_reset}
+use Rattle.iox2_machine.specs.machine.State.{State, is_present, connected_publishers, with_mailbox, subscriber_changed}
+use Rattle.iox2_machine.specs.machine.State.{publishers_due, receiver_channels_reset}
 
 module _ {T U : Type 0} where
   -- q still has to do with p: p wasn't closed, or some message of it waits or is borrowed.
@@ -16,11 +17,13 @@ module _ {T U : Type 0} where
 
   -- The subscriber q without the departed publishers that it has no message from any more.
   abbrev pub pruned : State T U → (q : ℕ) → Subscriber → Subscriber
-  pruned s q y = record y { ends = places_kept (is_connected s q) y.ends; expired = filter (is_connected s q) y.expired }
+  pruned s q y =
+      record y { ends = places_kept (is_connected s q) y.ends; expired = filter (is_connected s q) y.expired }
 
   -- The subscriber q was closed, and has borrowed nothing.
   abbrev pub is_unused : State T U → (q : ℕ) → Bool
-  is_unused s q = option_map_or (λ (y : Subscriber). not y.is_open && list_all (λ p. not (has_borrows (s.mailboxes p q))) (connected_publishers y)) (s.subscribers q) false
+  is_unused s q = option_map_or (λ (y : Subscriber). not y.is_open && list_all
+      (λ p. not (has_borrows (s.mailboxes p q))) (connected_publishers y)) (s.subscribers q) false
 
   -- The subscriber q is gone and its place is free; every publisher is due.
   abbrev pub place_freed : State T U → (q : ℕ) → State T U

@@ -1,5 +1,6 @@
 -- A loan is sent; a send that is blocked is tried again or given up.
-use Rattle.std.specs.Prelude.{ℕ, Bool, false, if◌then◌else◌, List, [], ◌∷◌, ◌++◌, take, drop, ◌≡◌, ◌+◌, ◌-◌, ◌^◌, nat_lt, MatchOption}
+use Rattle.std.specs.Prelude.{ℕ, Bool, false, if◌then◌else◌, List, [], ◌∷◌, ◌++◌, take, drop, ◌≡◌, ◌+◌, ◌-◌, ◌^◌}
+use Rattle.std.specs.Prelude.{nat_lt, MatchOption}
 use Rattle.std.specs.declared.option.Option.{Option}
 use Rattle.std.specs.declared.option.Option.TheVariants.{None, Some}
 use Rattle.std.specs.declared.time.Duration.{Duration}
@@ -12,7 +13,8 @@ use Rattle.iox2_machine.specs.machine.PublisherUpdate.{UpdatePublisher}
 use Rattle.iox2_machine.specs.machine.Loans.{loan_discarded}
 use Rattle.iox2_machine.specs.declared.errors.ConnectionFailure.{ConnectionFailure}
 use Rattle.iox2_machine.specs.declared.errors.SendError.{SendError}
-use Rattle.iox2_machine.specs.declared.errors.SendError.TheVariants.{ConnectionBrokenSinceSenderNoLongerExists, ConnectionError, UnableToDeliver}
+use Rattle.iox2_machine.specs.declared.errors.SendError.TheVariants.{ConnectionBrokenSinceSenderNoLongerExists}
+use Rattle.iox2_machine.specs.declared.errors.SendError.TheVariants.{ConnectionError, UnableToDeliver}
 
 -- What a send returns.
 pub data SendResult : Type 0 where
@@ -40,7 +42,8 @@ module _ {T U : Type 0} where
   -- The message n stands last in the history of p, whose oldest message leaves if it is full.
   -- (iceoryx2: `port/publisher.rs`, `add_sample_to_history`.)
   abbrev pub with_history : State T U → (p n : ℕ) → State T U
-  with_history s p n = publisher_changed s p (λ x. record x { history = last_n (s.config).history_size (x.history ++ n ∷ []) })
+  with_history s p n =
+      publisher_changed s p (λ x. record x { history = last_n (s.config).history_size (x.history ++ n ∷ []) })
 
   -- The loan n is a message from now on: it leaves its user's hands, and enters the history of p, if one is kept.
   abbrev pub published : State T U → (p n : ℕ) → State T U

@@ -1,5 +1,5 @@
--- Loans that are written at once; what no command does as it stands: writes of many values, and loans of slices of default
--- values; and the tests of handles.
+-- Loans that are written at once; what no command does as it stands: writes of many values, and loans of slices of
+-- default values; and the tests of handles.
 use Rattle.std.specs.Prelude.{ℕ, Bool, true, List, map, length, ◌≡◌, MatchOption, IsTrue}
 use Rattle.std.specs.List.{All}
 use Rattle.std.specs.declared.option.Option.{Option}
@@ -12,7 +12,8 @@ use Rattle.iox2_machine.specs.declared.errors.LoanError.{LoanError}
 
 module _ {T U : Type 0} where
   -- A loan is asked of the publisher p. If it is granted, `Then` says what becomes of it at once.
-  abbrev GrantLoanThen : Environment → (default_header : U) → (checks_length : Bool) → (len : ℕ) → State T U → (p : ℕ) → State T U → Option LoanError → (Then : State T U → Loan T U → Type 0) → Type 0
+  abbrev GrantLoanThen : Environment → (default_header : U) → (checks_length : Bool) → (len : ℕ) → State T U → (p : ℕ)
+      → State T U → Option LoanError → (Then : State T U → Loan T U → Type 0) → Type 0
   GrantLoanThen environment default_header checks_length len s p s' refusal Then =
       (mid : State T U) × GrantLoan environment default_header checks_length len s p mid refusal
       × MatchOption refusal
@@ -21,7 +22,8 @@ module _ {T U : Type 0} where
 
   -- `loan` and `send_copy`: a loan with that value in its cells, if it is granted; they loan a single value.
   -- (`loan_custom_payload` is `GrantLoan` as it is, with the length checked; `receive_custom_payload` is `Receive`.)
-  abbrev pub GrantWrittenLoan : Environment → (default_value : T) → (default_header : U) → (checks_length : Bool) → (len : ℕ) → State T U → (p : ℕ) → State T U → Option LoanError → Type 0
+  abbrev pub GrantWrittenLoan : Environment → (default_value : T) → (default_header : U) → (checks_length : Bool)
+      → (len : ℕ) → State T U → (p : ℕ) → State T U → Option LoanError → Type 0
   GrantWrittenLoan environment default_value default_header checks_length len s p s' refusal =
       GrantLoanThen environment default_header checks_length len s p s' refusal
       (λ mid l. s' ≡ with_loan mid s.next_message (Some (written l default_value)))
@@ -29,14 +31,17 @@ module _ {T U : Type 0} where
   -- `write_from_fn` and `write_from_slice`: every cell of the loan n is written, in order, and it is a `SampleMut` now.
   abbrev pub WriteAllFrom : State T U → (n : ℕ) → Loan T U → (values : List T) → State T U → Type 0
   WriteAllFrom s n l values s' =
-      (length values ≡ length l.cells) × (s' ≡ with_loan s n (Some (record l { cells = map Some values; is_written = true })))
+      (length values ≡ length l.cells)
+      × (s' ≡ with_loan s n (Some (record l { cells = map Some values; is_written = true })))
 
   -- `loan_slice`: a loan in whose cells these default values lie, one made for each cell, if it is granted. The values
   -- need not be alike, for they aren't copied.
-  abbrev pub GrantDefaultSlice : Environment → (IsDefaultValue : T → Type 0) → (values : List T) → (default_header : U) → (len : ℕ) → State T U → (p : ℕ) → State T U → Option LoanError → Type 0
+  abbrev pub GrantDefaultSlice : Environment → (IsDefaultValue : T → Type 0) → (values : List T) → (default_header : U)
+      → (len : ℕ) → State T U → (p : ℕ) → State T U → Option LoanError → Type 0
   GrantDefaultSlice environment IsDefaultValue values default_header len s p s' refusal =
       All IsDefaultValue values
-      × GrantLoanThen environment default_header true len s p s' refusal (λ mid l. WriteAllFrom mid s.next_message l values s')
+      × GrantLoanThen environment default_header true len s p s' refusal
+      (λ mid l. WriteAllFrom mid s.next_message l values s')
 
   -- ---- the tests of handles
 
@@ -58,4 +63,5 @@ module _ {T U : Type 0} where
 
   -- A blocked send's handle is live: its publisher waits with that message.
   abbrev pub HoldsBlocked : State T U → (p n : ℕ) → Type 0
-  HoldsBlocked s p n = (x : Publisher) × (b : BlockedSend) × (s.publishers p ≡ Some x) × (x.blocked ≡ Some b) × (b.message ≡ n)
+  HoldsBlocked s p n =
+      (x : Publisher) × (b : BlockedSend) × (s.publishers p ≡ Some x) × (x.blocked ≡ Some b) × (b.message ≡ n)

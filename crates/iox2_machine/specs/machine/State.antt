@@ -81,7 +81,8 @@ module _ {T U : Type 0} where
 
   -- The buffer of a subscriber that takes messages, or none if it is closed: a message put there is skipped.
   abbrev pub receiving_buffer : State T U → (q : ℕ) → Option ℕ
-  receiving_buffer s q = option_and_then (λ (y : Subscriber). if y.is_open then Some y.buffer else None) (s.subscribers q)
+  receiving_buffer s q =
+      option_and_then (λ (y : Subscriber). if y.is_open then Some y.buffer else None) (s.subscribers q)
 
   -- The subscriber wasn't closed.
   abbrev pub is_open : State T U → (q : ℕ) → Bool
@@ -93,11 +94,15 @@ module _ {T U : Type 0} where
 
   -- The publisher p has its end of the mailbox with q.
   abbrev pub has_sender_end : State T U → (p q : ℕ) → Bool
-  has_sender_end s p q = option_map_or (λ (x : Publisher). option_map_or (λ (y : Subscriber). is_port (occupant x.ends y.place) q) (s.subscribers q) false) (s.publishers p) false
+  has_sender_end s p q =
+      option_map_or (λ (x : Publisher). option_map_or (λ (y : Subscriber). is_port (occupant x.ends y.place) q)
+      (s.subscribers q) false) (s.publishers p) false
 
   -- The subscriber q has its end of the mailbox with p, which wasn't closed.
   abbrev pub has_receiver_end : State T U → (p q : ℕ) → Bool
-  has_receiver_end s p q = option_map_or (λ (y : Subscriber). option_map_or (λ (x : Publisher). is_port (occupant y.ends x.place) p) (s.publishers p) false) (s.subscribers q) false
+  has_receiver_end s p q =
+      option_map_or (λ (y : Subscriber). option_map_or (λ (x : Publisher). is_port (occupant y.ends x.place) p)
+      (s.publishers p) false) (s.subscribers q) false
 
   -- p and q are connected: p has an end to q, or q has one to p or keeps it among its departed publishers.
   abbrev pub is_linked : State T U → (p q : ℕ) → Bool
@@ -151,12 +156,15 @@ module _ {T U : Type 0} where
 
   -- The subscriber q, if it has a record, is changed so.
   abbrev pub subscriber_changed : State T U → (q : ℕ) → (Subscriber → Subscriber) → State T U
-  subscriber_changed s q change = record s { subscribers = put_at s.subscribers q (option_map change (s.subscribers q)) }
+  subscriber_changed s q change =
+      record s { subscribers = put_at s.subscribers q (option_map change (s.subscribers q)) }
 
   -- The list of subscribers has changed: every publisher is due for an update.
   abbrev pub publishers_due : State T U → State T U
-  publishers_due s = record s { publishers = λ p. option_map {T = Publisher} (λ x. record x { is_due = true }) (s.publishers p) }
+  publishers_due s =
+      record s { publishers = λ p. option_map {T = Publisher} (λ x. record x { is_due = true }) (s.publishers p) }
 
   -- The list of publishers has changed: every subscriber is due for an update.
   abbrev pub subscribers_due : State T U → State T U
-  subscribers_due s = record s { subscribers = λ q. option_map {T = Subscriber} (λ y. record y { is_due = true }) (s.subscribers q) }
+  subscribers_due s =
+      record s { subscribers = λ q. option_map {T = Subscriber} (λ y. record y { is_due = true }) (s.subscribers q) }

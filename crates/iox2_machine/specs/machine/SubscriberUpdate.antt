@@ -1,6 +1,7 @@
 -- A subscriber's update: it goes over the publishers that are listed now, then over the places that became empty.
 -- (iceoryx2: `port/subscriber.rs`, `force_update_connections`, and `port/details/receiver.rs`.)
-use Rattle.std.specs.Prelude.{ℕ, Bool, true, false, if◌then◌else◌, List, [], ◌∷◌, ◌++◌, length, ◌≡◌, ◌⊎◌, ◌==◌, nat_lt, MatchOption}
+use Rattle.std.specs.Prelude.{ℕ, Bool, true, false, if◌then◌else◌, List, [], ◌∷◌, ◌++◌, length, ◌≡◌, ◌⊎◌, ◌==◌, nat_lt}
+use Rattle.std.specs.Prelude.{MatchOption}
 use Rattle.std.specs.Bool.{MatchBool}
 use Rattle.std.specs.declared.option.Option.{Option}
 use Rattle.std.specs.declared.option.Option.TheVariants.{None, Some}
@@ -59,7 +60,8 @@ data_discarded q side p = record side {
 -- What the retirement of p does.
 abbrev pub after_retirement : (q : ℕ) → ReceiverSide → (p : ℕ) → Retirement → ReceiverSide
 after_retirement q side p Keep_expired = record side { expired = side.expired ++ p ∷ [] }
-after_retirement q side p (Evict first) = record (data_discarded q side first) { expired = without first side.expired ++ p ∷ [] }
+after_retirement q side p (Evict first) =
+    record (data_discarded q side first) { expired = without first side.expired ++ p ∷ [] }
 after_retirement q side p Discard_data = data_discarded q side p
 after_retirement q side p Refuse = record side { is_due = true }
 
@@ -76,7 +78,8 @@ with_end side place end = record side { ends = set_place side.ends place end }
 
 -- The update of the subscriber q, which has that handler and keeps at most `limit` expired publishers. `has_sender_end`
 -- says which publishers have their end of the mailbox already.
-module _ (environment : Environment) (service_id q : ℕ) (handler : Handler DegradationAction) (limit : ℕ) (has_sender_end : ℕ → Bool) where
+module _ (environment : Environment) (service_id q : ℕ) (handler : Handler DegradationAction) (limit : ℕ)
+    (has_sender_end : ℕ → Bool) where
   -- The end to p is made. If p has no end either, memory may be refused instead.
   abbrev pub ConnectReceiver : ReceiverSide → (place p : ℕ) → ReceiverSide → Option ConnectionFailure → Type 0
   ConnectReceiver side place p side' failure =
@@ -85,8 +88,10 @@ module _ (environment : Environment) (service_id q : ℕ) (handler : Handler Deg
       × ConnectionRefused environment service_id p q q handler side.warnings warnings failure
       × (side' ≡ record side { warnings = warnings }))
 
-  -- The departed publisher `old` is retired from the place, and then comes what `Then` says; or the retirement is refused.
-  abbrev pub Retire : ReceiverSide → (place old : ℕ) → ReceiverSide → Option ConnectionFailure → (Then : ReceiverSide → Type 0) → Type 0
+  -- The departed publisher `old` is retired from the place, and then comes what `Then` says; or the retirement is
+  -- refused.
+  abbrev pub Retire : ReceiverSide → (place old : ℕ) → ReceiverSide → Option ConnectionFailure
+      → (Then : ReceiverSide → Type 0) → Type 0
   Retire side place old side' failure Then =
       let how = retirement_of limit side.mailboxes side.expired old in
       MatchBool (is_refused how)
@@ -94,7 +99,8 @@ module _ (environment : Environment) (service_id q : ℕ) (handler : Handler Deg
       (Then (with_end (after_retirement q side old how) place None))
 
   -- At a place where a publisher stands, an end to it stays or is made, after the one that stood there was retired.
-  abbrev pub ConnectAtPlace : (place : ℕ) → (at : Option ℕ) → ReceiverSide → ReceiverSide → Option ConnectionFailure → Type 0
+  abbrev pub ConnectAtPlace : (place : ℕ) → (at : Option ℕ) → ReceiverSide → ReceiverSide → Option ConnectionFailure
+      → Type 0
   ConnectAtPlace place at side side' failure =
       MatchOption at
       ((side' ≡ side) × (failure ≡ None))
@@ -105,7 +111,8 @@ module _ (environment : Environment) (service_id q : ℕ) (handler : Handler Deg
       (Retire side place old side' failure (λ mid. ConnectReceiver mid place p side' failure))))
 
   -- At an empty place, the publisher that stood there is retired.
-  abbrev pub DisconnectAtPlace : (place : ℕ) → (at : Option ℕ) → ReceiverSide → ReceiverSide → Option ConnectionFailure → Type 0
+  abbrev pub DisconnectAtPlace : (place : ℕ) → (at : Option ℕ) → ReceiverSide → ReceiverSide → Option ConnectionFailure
+      → Type 0
   DisconnectAtPlace place at side side' failure =
       MatchOption at
       (MatchOption (occupant side.ends place)
@@ -124,12 +131,19 @@ module _ (environment : Environment) (service_id q : ℕ) (handler : Handler Deg
 module _ {T U : Type 0} where
   -- What the subscriber's update begins with: it isn't due any more.
   abbrev pub receiver_side : State T U → (q : ℕ) → Subscriber → ReceiverSide
-  receiver_side s q y = record { ends = y.ends; expired = y.expired; is_due = false; mailboxes = λ p. s.mailboxes p q; warnings = s.warnings }
+  receiver_side s q y = record {
+    ends = y.ends;
+    expired = y.expired;
+    is_due = false;
+    mailboxes = λ p. s.mailboxes p q;
+    warnings = s.warnings;
+  }
 
   -- The subscriber and its mailboxes after the update.
   abbrev pub with_receiver_side : State T U → (q : ℕ) → Subscriber → ReceiverSide → State T U
   with_receiver_side s q y side = record s {
-    subscribers = put_at s.subscribers q (Some (record y { ends = side.ends; expired = side.expired; is_due = side.is_due }));
+    subscribers =
+        put_at s.subscribers q (Some (record y { ends = side.ends; expired = side.expired; is_due = side.is_due }));
     mailboxes = λ p. put_at (s.mailboxes p) q (side.mailboxes p);
     warnings = side.warnings;
   }
@@ -140,7 +154,8 @@ module _ {T U : Type 0} where
       MatchOption (s.subscribers q) ⊥ (λ y.
       MatchBool y.is_due
       ((side : ReceiverSide)
-      × UpdateReceiverSide environment (s.config).service_id q y.degradation_handler (expired_limit s.config) (λ p. has_sender_end s p q)
+      × UpdateReceiverSide environment (s.config).service_id q y.degradation_handler (expired_limit s.config)
+      (λ p. has_sender_end s p q)
       s.publisher_places (receiver_side s q y) side failure
       × (s' ≡ receiver_channels_reset (with_receiver_side s q y side) q))
       ((s' ≡ s) × (failure ≡ None)))

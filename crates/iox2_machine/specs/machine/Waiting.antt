@@ -13,4 +13,5 @@ receives_from y p = y.is_open && (y.is_due || contains (connected_publishers y) 
 module _ {T U : Type 0} where
   -- The messages of p that wait for q, oldest first: none if q doesn't receive from p.
   abbrev pub waiting_from : State T U → (p q : ℕ) → List ℕ
-  waiting_from s p q = if option_map_or (λ (y : Subscriber). receives_from y p) (s.subscribers q) false then (s.mailboxes p q).waiting else []
+  waiting_from s p q = if option_map_or (λ (y : Subscriber). receives_from y p) (s.subscribers q) false then
+      (s.mailboxes p q).waiting else []

@@ -6,7 +6,8 @@ use Rattle.std.specs.declared.option.Option.TheVariants.{None, Some}
 use Rattle.iox2_machine.specs.machine.Limits.{buffer_limit, channel_count, expired_limit, worst_case, segment_limit}
 use Rattle.iox2_machine.specs.machine.Numbers.{contains, size, IsOnce}
 use Rattle.iox2_machine.specs.machine.Places.{occupant}
-use Rattle.iox2_machine.specs.machine.Mailbox.{numbers_in, has_numbers, has_borrows, has_waiting, waiting_count, IsWithin, OthersWithin}
+use Rattle.iox2_machine.specs.machine.Mailbox.{numbers_in, has_numbers, has_borrows, has_waiting, waiting_count}
+use Rattle.iox2_machine.specs.machine.Mailbox.{IsWithin, OthersWithin}
 use Rattle.iox2_machine.specs.machine.Records.{Loan, Publisher, Subscriber, BlockedSend}
 use Rattle.iox2_machine.specs.machine.State.{State, held}
 use Rattle.iox2_machine.specs.machine.Loans.{is_static, is_initialized}
@@ -34,8 +35,8 @@ module _ {T U : Type 0} where
   abbrev pub subscriber_place : State T U → (q : ℕ) → Option ℕ
   subscriber_place s q = option_map {T = Subscriber} {U = ℕ} (λ y. y.place) (s.subscribers q)
 
-  -- A blocked send's message is out, no user holds it, its remaining ends are some of the publisher's from its place on,
-  -- and those haven't got it.
+  -- A blocked send's message is out, no user holds it, its remaining ends are some of the publisher's from its place
+  -- on, and those haven't got it.
   pub record BlockedIsWellFormed (s : State T U) (p : ℕ) (x : Publisher) (b : BlockedSend) : Type 0 where
     pub is_out : contains x.loans b.message ≡ true
     pub unheld : s.loans b.message ≡ None
@@ -55,7 +56,8 @@ module _ {T U : Type 0} where
     pub loans_below : (n : ℕ) → contains x.loans n ≡ true → n < s.next_message
     -- A loan that is out is in its user's hands, or it is the blocked send's.
     pub loans_held : (n : ℕ) → contains x.loans n ≡ true
-        → ((l : Loan T U) × (s.loans n ≡ Some l) × (l.publisher ≡ p)) ⊎ ((b : BlockedSend) × (x.blocked ≡ Some b) × (b.message ≡ n))
+        → ((l : Loan T U) × (s.loans n ≡ Some l) × (l.publisher ≡ p))
+        ⊎ ((b : BlockedSend) × (x.blocked ≡ Some b) × (b.message ≡ n))
     pub history_bound : length x.history ≤ (s.config).history_size
     pub history_once : IsOnce x.history
     pub history_below : (n : ℕ) → contains x.history n ≡ true → n < s.next_message
@@ -63,7 +65,8 @@ module _ {T U : Type 0} where
     pub ends_apart : IsInjective x.ends
     pub ends_known : (q : ℕ) → LeadsTo x.ends q → q < s.next_port
     -- An end to a subscriber that isn't gone stands at its place.
-    pub ends_stand : (place q : ℕ) (y : Subscriber) → occupant x.ends place ≡ Some q → s.subscribers q ≡ Some y → y.place ≡ place
+    pub ends_stand : (place q : ℕ) (y : Subscriber) → occupant x.ends place ≡ Some q → s.subscribers q ≡ Some y
+        → y.place ≡ place
     pub slots_bound : is_static x.allocation_strategy ≡ true → size (held s p x) ≤ x.slots
     pub some_segment : 0 < x.segments
     pub segments_bound : x.segments ≤ segment_limit
@@ -97,7 +100,8 @@ module _ {T U : Type 0} where
     pub within : IsWithin (buffer_limit s.config) (s.config).subscriber_max_borrowed_samples (s.mailboxes p q)
     pub others : OthersWithin (channel_count s.config) (buffer_limit s.config) (s.mailboxes p q)
     pub room : (y : Subscriber) → s.subscribers q ≡ Some y → waiting_count (s.mailboxes p q) ≤ y.buffer
-    pub others_room : (y : Subscriber) → s.subscribers q ≡ Some y → OthersWithin (channel_count s.config) y.buffer (s.mailboxes p q)
+    pub others_room : (y : Subscriber) → s.subscribers q ≡ Some y
+        → OthersWithin (channel_count s.config) y.buffer (s.mailboxes p q)
     pub below : (n : ℕ) → contains (numbers_in (s.mailboxes p q)) n ≡ true → n < s.next_message
     pub known : has_numbers (s.mailboxes p q) ≡ true → (p < s.next_port) × (q < s.next_port)
     pub sender_end : (x : Publisher) → s.publishers p ≡ Some x → has_numbers (s.mailboxes p q) ≡ true → LeadsTo x.ends q
@@ -105,7 +109,8 @@ module _ {T U : Type 0} where
         → (y : Subscriber) × (s.subscribers q ≡ Some y) × ((contains y.expired p ≡ true) ⊎ LeadsTo y.ends p)
     -- What waits from a departed publisher, in whatever channel, waits for an open subscriber that knows it.
     pub departed : s.publishers p ≡ None → has_waiting (s.mailboxes p q) ≡ true
-        → (y : Subscriber) × (s.subscribers q ≡ Some y) × (y.is_open ≡ true) × ((contains y.expired p ≡ true) ⊎ LeadsTo y.ends p)
+        → (y : Subscriber) × (s.subscribers q ≡ Some y) × (y.is_open ≡ true)
+        × ((contains y.expired p ≡ true) ⊎ LeadsTo y.ends p)
 
   -- A loan's number was given out, and its publisher has sent no message under it. Its header names its publisher and
   -- counts its cells, and a written loan has all of them.
@@ -115,7 +120,8 @@ module _ {T U : Type 0} where
     pub origin : (l.header).publisher_id ≡ l.publisher
     pub cells : length l.cells ≡ (l.header).number_of_elements * (s.config).units_per_element
     pub complete : l.is_written ≡ true → is_initialized l ≡ true
-    pub is_out : (x : Publisher) → s.publishers l.publisher ≡ Some x → (contains x.loans n ≡ true) × (contains x.history n ≡ false)
+    pub is_out : (x : Publisher) → s.publishers l.publisher ≡ Some x
+        → (contains x.loans n ≡ true) × (contains x.history n ≡ false)
     pub unsent : (q : ℕ) → contains (numbers_in (s.mailboxes l.publisher q)) n ≡ false
 
   -- A state whose parts agree and keep their bounds, and in which each id and number is below its counter.
@@ -129,4 +135,5 @@ module _ {T U : Type 0} where
 
   -- A publisher holds no more different messages and loans than the worst case for the loans that are out.
   abbrev pub HoldsAtMostWorstCase : State T U → Type 0
-  HoldsAtMostWorstCase s = (p : ℕ) (x : Publisher) → s.publishers p ≡ Some x → size (held s p x) ≤ worst_case s.config (length x.loans)
+  HoldsAtMostWorstCase s =
+      (p : ℕ) (x : Publisher) → s.publishers p ≡ Some x → size (held s p x) ≤ worst_case s.config (length x.loans)

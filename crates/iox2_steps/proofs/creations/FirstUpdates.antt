@@ -30,48 +30,78 @@ module _ {T U : Type 0} where
   warned-reaches : (f : Fields T U) → IsDomain f → (warnings : WarningRing) → warnings.capacity ≡ warning_limit
       → Reaches f (record f { warnings = warnings }) (record (state_of (kept_of f)) { warnings = warnings.items })
   warned-reaches f sound warnings room = record {
-    agrees = whole_of (record f { warnings = warnings }) (parts-warned f warnings sound.parts room) sound.lone sound.kept_books
+    agrees = whole_of (record f { warnings = warnings })
+        (parts-warned f warnings sound.parts room) sound.lone sound.kept_books
         (with_warning_keeps (state_of (kept_of f)) sound.well_formed warnings.items)
-        (λ p n held. sound.entries p n (held-before (state_of (kept_of f)) (record (state_of (kept_of f)) { warnings = warnings.items }) p n (λ q. refl)
+        (λ p n held. sound.entries p n (held-before (state_of (kept_of f))
+        (record (state_of (kept_of f)) { warnings = warnings.items }) p n (λ q. refl)
         (λ x at. (x, at, record { history = refl; blocked = refl })) held));
     state = refl;
     entries = λ n entry at. at;
     places = places-still;
   }
 
-  failure-reaches : (f : Fields T U) → IsDomain f → (warning : ConnectionFailure → Warning) (failure : Option ConnectionFailure)
-      → Reaches f (record f { warnings = warning_ring (failure_warned warning failure f.warnings.items) warning_limit }) (with_failure_warning (state_of (kept_of f)) warning failure)
+  failure-reaches : (f : Fields T U) → IsDomain f
+      → (warning : ConnectionFailure → Warning) (failure : Option ConnectionFailure)
+      → Reaches f (record f { warnings = warning_ring (failure_warned warning failure f.warnings.items) warning_limit })
+      (with_failure_warning (state_of (kept_of f)) warning failure)
   failure-reaches f sound warning None = warned-reaches f sound (warning_ring f.warnings.items warning_limit) refl
-  failure-reaches f sound warning (Some e) = warned-reaches f sound (warning_ring (warned f.warnings.items (warning e)) warning_limit) refl
+  failure-reaches f sound warning (Some e) =
+      warned-reaches f sound (warning_ring (warned f.warnings.items (warning e)) warning_limit) refl
 
   -- an update of a subscriber, and a warning of its failure, are a first update
-  pub subscriber-first-updates : (environment : Environment) (f mid new : Fields T U) (place q : ℕ) (failure : Option ConnectionFailure) (y : SubscriberFields)
+  pub subscriber-first-updates : (environment : Environment) (f mid new : Fields T U) (place q : ℕ)
+      (failure : Option ConnectionFailure) (y : SubscriberFields)
       → UpdatesReceiver environment f place y mid failure → get_or f.subscribers place None ≡ Some y → y.id ≡ q
-      → new ≡ record mid { warnings = warning_ring (failure_warned (SubscriberPartlyConnected q) failure mid.warnings.items) warning_limit } → SubscriberFirstUpdates environment f place y new
+      → new ≡ record mid {
+        warnings = warning_ring (failure_warned (SubscriberPartlyConnected q) failure mid.warnings.items)
+            warning_limit;
+      } → SubscriberFirstUpdates environment f place y new
   subscriber-first-updates environment f mid new place q failure y u at its is = record {
     after = with_failure_warning (state_of (kept_of mid)) (SubscriberPartlyConnected q) failure;
-    updates = (state_of (kept_of mid), failure, u.updates, ap (λ (r : ℕ). with_failure_warning (state_of (kept_of mid)) (SubscriberPartlyConnected r) failure) (sym its));
-    reaches = reaches-then f mid new (state_of (kept_of mid)) (with_failure_warning (state_of (kept_of mid)) (SubscriberPartlyConnected q) failure)
+    updates = (
+      state_of (kept_of mid),
+      failure,
+      u.updates,
+      ap (λ (r : ℕ). with_failure_warning (state_of (kept_of mid)) (SubscriberPartlyConnected r) failure) (sym its),
+    );
+    reaches = reaches-then f mid new (state_of (kept_of mid))
+        (with_failure_warning (state_of (kept_of mid)) (SubscriberPartlyConnected q) failure)
         (updated-reaches environment f mid place y failure u)
-        (subst (λ (g : Fields T U). Reaches mid g (with_failure_warning (state_of (kept_of mid)) (SubscriberPartlyConnected q) failure)) (sym is) (failure-reaches mid u.changes.agrees (SubscriberPartlyConnected q) failure));
+        (subst (λ (g : Fields T U). Reaches mid g
+        (with_failure_warning (state_of (kept_of mid)) (SubscriberPartlyConnected q) failure)) (sym is)
+        (failure-reaches mid u.changes.agrees (SubscriberPartlyConnected q) failure));
     subscriber = updated environment f mid place y failure u;
-    stands = ap (λ (g : Fields T U). get_or g.subscribers place None) is ∙ updated-stands environment f mid place y failure u at;
+    stands = ap (λ (g : Fields T U). get_or g.subscribers place None) is
+        ∙ updated-stands environment f mid place y failure u at;
     is_its = refl;
   }
 
   -- an update of a publisher, and a warning of its failure, are a first update
-  pub publisher-first-updates : (environment : Environment) (f mid new : Fields T U) (place p : ℕ) (failure : Option ConnectionFailure) (x : PublisherFields)
+  pub publisher-first-updates : (environment : Environment) (f mid new : Fields T U) (place p : ℕ)
+      (failure : Option ConnectionFailure) (x : PublisherFields)
       → UpdatesKeptPublisher environment f place x mid failure → get_or f.publishers place None ≡ Some x → x.id ≡ p
-      → new ≡ record mid { warnings = warning_ring (failure_warned (PublisherPartlyConnected p) failure mid.warnings.items) warning_limit } → PublisherFirstUpdates environment f place x new
+      → new ≡ record mid
+      { warnings = warning_ring (failure_warned (PublisherPartlyConnected p) failure mid.warnings.items) warning_limit }
+      → PublisherFirstUpdates environment f place x new
   publisher-first-updates environment f mid new place p failure x u at its is = record {
     after = with_failure_warning u.after (PublisherPartlyConnected p) failure;
-    updates = (u.after, failure, u.updates, ap (λ (r : ℕ). with_failure_warning u.after (PublisherPartlyConnected r) failure) (sym its));
-    reaches = reaches-then f mid new u.after (with_failure_warning u.after (PublisherPartlyConnected p) failure) u.reaches
-        (subst (λ (s : State T U). Reaches mid new (with_failure_warning s (PublisherPartlyConnected p) failure)) u.reaches.state
-        (subst (λ (g : Fields T U). Reaches mid g (with_failure_warning (state_of (kept_of mid)) (PublisherPartlyConnected p) failure)) (sym is)
+    updates = (
+      u.after,
+      failure,
+      u.updates,
+      ap (λ (r : ℕ). with_failure_warning u.after (PublisherPartlyConnected r) failure) (sym its),
+    );
+    reaches =
+        reaches-then f mid new u.after (with_failure_warning u.after (PublisherPartlyConnected p) failure) u.reaches
+        (subst (λ (s : State T U). Reaches mid new (with_failure_warning s (PublisherPartlyConnected p) failure))
+        u.reaches.state
+        (subst (λ (g : Fields T U).
+        Reaches mid g (with_failure_warning (state_of (kept_of mid)) (PublisherPartlyConnected p) failure)) (sym is)
         (failure-reaches mid u.reaches.agrees (PublisherPartlyConnected p) failure)));
     publisher = record x { keys = u.keys; key_room = u.key_room; is_due = false };
-    stands = ap (λ (g : Fields T U). get_or g.publishers place None) is ∙ ap (λ (g : Fields T U). get_or g.publishers place None) u.fields
+    stands = ap (λ (g : Fields T U). get_or g.publishers place None) is
+        ∙ ap (λ (g : Fields T U). get_or g.publishers place None) u.fields
         ∙ changed-here f.publishers place x (record x { keys = u.keys; key_room = u.key_room; is_due = false }) at;
     is_its = refl;
   }

@@ -28,11 +28,15 @@ module _ {T U : Type 0} (f : Fields T U) where
   -- a place at which no publisher stands is free in the state
   pub occupant-free : (xs : List (Option PublisherFields)) (place : ℕ) → get_or xs place None ≡ None
       → occupant (ids (map (option_map (publisher_of f.books f.connections)) xs)) place ≡ None
-  occupant-free xs place free = named-at (publisher_of f.books f.connections) xs place ∙ ap (option_map (λ (x : PublisherFields). x.id)) free
+  occupant-free xs place free =
+      named-at (publisher_of f.books f.connections) xs place ∙ ap (option_map (λ (x : PublisherFields). x.id)) free
 
-module _ {T U : Type 0} (f : Fields T U) (sound : IsDomain f) (place : ℕ) (given : PublisherSettings) (loan_room key_room key : ℕ) (books : Slab Book) (contents : List (Option (List (ContentState T U))))
+module _ {T U : Type 0} (f : Fields T U) (sound : IsDomain f) (place : ℕ) (given : PublisherSettings)
+    (loan_room key_room key : ℕ) (books : Slab Book) (contents : List (Option (List (ContentState T U))))
     (free : get_or f.publishers place None ≡ None)
-    (book : BookEnters (f.config).node_id f.next_port (slots_for f.config given) (slot_length given.initial_max_slice_len * (f.config).units_per_element) key f.books f.contents books contents) (forms : HasForms f.config contents)
+    (book : BookEnters (f.config).node_id f.next_port (slots_for f.config given)
+    (slot_length given.initial_max_slice_len * (f.config).units_per_element) key f.books f.contents books contents)
+    (forms : HasForms f.config contents)
     (lists : All (λ content. content.lists ≡ cell_lists f.config given.max_loaned_samples) book.slot_contents) where
   -- the new publisher among the fields whose subscribers are due
   abbrev pub enters : PublisherEnters (with_subscribers_due f) place given loan_room key_room key books contents
@@ -40,7 +44,8 @@ module _ {T U : Type 0} (f : Fields T U) (sound : IsDomain f) (place : ℕ) (giv
 
   -- the fields with every subscriber due, and with the new publisher
   abbrev pub with_admitted : Fields T U
-  with_admitted = with_entered_publisher (with_subscribers_due f) place given loan_room key_room key books contents enters
+  with_admitted =
+      with_entered_publisher (with_subscribers_due f) place given loan_room key_room key books contents enters
 
   -- the machine's step
   pub admitted-is : state_of (kept_of with_admitted) ≡ with_new_publisher (state_of (kept_of f)) given place
@@ -53,19 +58,23 @@ module _ {T U : Type 0} (f : Fields T U) (sound : IsDomain f) (place : ℕ) (giv
       }) (subscribers_due-are f)
 
   -- the invariant is kept
-  pub admitted-agrees : HasPublisherRoom f.config (newcomer (with_subscribers_due f) place given loan_room key_room key books contents enters)
+  pub admitted-agrees : HasPublisherRoom f.config
+      (newcomer (with_subscribers_due f) place given loan_room key_room key books contents enters)
       → place < (f.config).max_publishers → place ≤ length f.publishers → IsDomain with_admitted
   admitted-agrees rooms low next =
       entered-agrees (with_subscribers_due f) place given loan_room key_room key books contents enters rooms next
-      (rw admitted-is (new_publisher_keeps (state_of (kept_of f)) sound.well_formed given place low (occupant-free f f.publishers place free)))
+      (rw admitted-is (new_publisher_keeps (state_of (kept_of f)) sound.well_formed given place low
+      (occupant-free f f.publishers place free)))
 
   -- all that the step comes to
-  pub admitted-reaches : HasPublisherRoom f.config (newcomer (with_subscribers_due f) place given loan_room key_room key books contents enters)
+  pub admitted-reaches : HasPublisherRoom f.config
+      (newcomer (with_subscribers_due f) place given loan_room key_room key books contents enters)
       → place < (f.config).max_publishers → place ≤ length f.publishers
       → Reaches f with_admitted (with_new_publisher (state_of (kept_of f)) given place)
   admitted-reaches rooms low next = record {
     agrees = admitted-agrees rooms low next;
     state = admitted-is;
-    entries = λ n entry at. sym (entries_same (with_subscribers_due f) place given loan_room key_room key books contents enters n) ∙ at;
+    entries = λ n entry at.
+        sym (entries_same (with_subscribers_due f) place given loan_room key_room key books contents enters n) ∙ at;
     places = entered-places (with_subscribers_due f) place given loan_room key_room key books contents enters;
   }

@@ -1,5 +1,6 @@
 -- A publisher enters a domain at the place that it has, or it is refused.
-use Rattle.std.proofs.Common.{◌≡◌, ◌≢◌, ℕ, suc, ◌+◌, ◌*◌, ◌<◌, ◌≤◌, ◌==◌, Bool, true, false, cond, nat_lt, List, [], length, map, get_or, replicate, refl, ap, sym, subst, ◌∙◌, inl, inr, arith}
+use Rattle.std.proofs.Common.{◌≡◌, ◌≢◌, ℕ, suc, ◌+◌, ◌*◌, ◌<◌, ◌≤◌, ◌==◌, Bool, true, false, cond, nat_lt, List, []}
+use Rattle.std.proofs.Common.{length, map, get_or, replicate, refl, ap, sym, subst, ◌∙◌, inl, inr, arith}
 use Rattle.std.proofs.lemmas.Bool.{cases_eq, ltb-true, eq-eqb}
 use Rattle.std.proofs.lemmas.List.Elements.{All-weaker}
 use Rattle.std.specs.List.{All}
@@ -15,11 +16,13 @@ use Rattle.iox2_machine.specs.machine.Records.{PublisherSettings}
 use Rattle.iox2_machine.specs.SingleValues.{is_single_valued}
 use Rattle.iox2_slots.specs.SlotBook.{Book, IsAligned}
 use Rattle.iox2_contents.specs.SlotContents.{ContentState}
-use Rattle.iox2_machine.specs.declared.errors.PublisherCreateError.TheVariants.{UnableToCreatePortTag, ExceedsMaxSupportedPublishers}
+use Rattle.iox2_machine.specs.declared.errors.PublisherCreateError.TheVariants.{UnableToCreatePortTag}
+use Rattle.iox2_machine.specs.declared.errors.PublisherCreateError.TheVariants.{ExceedsMaxSupportedPublishers}
 use Rattle.iox2_domain.specs.Ports.{PublisherFields, slot_length}
 use Rattle.iox2_domain.specs.Kept.{state_of}
 use Rattle.iox2_domain.specs.Fields.{Fields, kept_of}
-use Rattle.iox2_domain.specs.Invariant.{IsDomain, IsLinked, HasBooks, HasNumber, IsNumbered, HasForms, HasPublisherRoom, cell_lists}
+use Rattle.iox2_domain.specs.Invariant.{IsDomain, IsLinked, HasBooks, HasNumber, IsNumbered, HasForms, HasPublisherRoom}
+use Rattle.iox2_domain.specs.Invariant.{cell_lists}
 use Rattle.iox2_domain.specs.NewPublisher.{entering_publisher, place_for_publisher}
 use Rattle.iox2_domain.specs.Placed.{placed, lowest_empty}
 use Rattle.iox2_domain.specs.Reaches.{Reaches}
@@ -44,7 +47,8 @@ module _ {T U : Type 0} (f : Fields T U) where
       let parts = by (f.next_port == last_number) (nat_lt (lowest_empty f.publishers) (f.config).max_publishers) e in
       record { numbered = parts.0; low = parts.1; lowest = parts.2 }
     where
-      by : (a b : Bool) → cond a (Err UnableToCreatePortTag) (cond b (Ok (lowest_empty f.publishers)) (Err ExceedsMaxSupportedPublishers)) ≡ Ok place
+      by : (a b : Bool) → cond a (Err UnableToCreatePortTag)
+          (cond b (Ok (lowest_empty f.publishers)) (Err ExceedsMaxSupportedPublishers)) ≡ Ok place
           → (a ≡ false) × (b ≡ true) × (lowest_empty f.publishers ≡ place)
       by true b e = absurd cc
       by false false e = absurd cc
@@ -72,7 +76,8 @@ module _ {T U : Type 0} (f : Fields T U) where
       warning_room = sound.parts.warning_room;
       shapes = record { at = sound.parts.shapes.at };
       forms = sound.parts.forms;
-      open_loans = open-kept f.publishers f.books _ f.contents f.contents (λ k slot some. some) (λ k slot some. refl) (same-lists f.contents) sound.parts.open_loans;
+      open_loans = open-kept f.publishers f.books _ f.contents f.contents (λ k slot some. some) (λ k slot some. refl)
+          (same-lists f.contents) sound.parts.open_loans;
       plain = sound.parts.plain;
     };
     kept_books = record { at = sound.kept_books.at };
@@ -102,7 +107,14 @@ module _ {T U : Type 0} (f : Fields T U) where
       one_each = b.one_each;
       books = b.books;
       publishers = λ i x at. let has = b.publishers i x at in
-          record { book = has.book; stands = has.stands; is_its = has.is_its; node = has.node; slots = has.slots; room = has.room };
+          record {
+            book = has.book;
+            stands = has.stands;
+            is_its = has.is_its;
+            node = has.node;
+            slots = has.slots;
+            room = has.room;
+          };
       no_others = b.no_others;
     }
 
@@ -116,27 +128,41 @@ module _ {T U : Type 0} (f : Fields T U) where
     }
 
   -- the same is kept where there is only more room
-  pub room-reaches : (before new : Fields T U) (capacity : ℕ) → before ≡ f → IsDomain f → new ≡ record before { books = record (before.books) { capacity = capacity } }
+  pub room-reaches : (before new : Fields T U) (capacity : ℕ) → before ≡ f → IsDomain f
+      → new ≡ record before { books = record (before.books) { capacity = capacity } }
       → Reaches f new (state_of (kept_of f))
   room-reaches before new capacity e sound changed =
-      let same : new ≡ with_room capacity = changed ∙ ap (λ (g : Fields T U). record g { books = record (g.books) { capacity = capacity } }) e in
-      subst (λ (g : Fields T U). Reaches f g (state_of (kept_of f))) (sym same) (record { agrees = room-agrees capacity sound; state = refl; entries = λ n entry at. at; places = places-back (λ k slot n has. record { book = has.book; stands = has.stands; in_use = has.in_use; number = has.number }) })
+      let same : new ≡ with_room capacity =
+      changed ∙ ap (λ (g : Fields T U). record g { books = record (g.books) { capacity = capacity } }) e in
+      subst (λ (g : Fields T U). Reaches f g (state_of (kept_of f))) (sym same)
+      (record {
+        agrees = room-agrees capacity sound;
+        state = refl;
+        entries = λ n entry at. at;
+        places = places-back
+            (λ k slot n has. record { book = has.book; stands = has.stands; in_use = has.in_use; number = has.number });
+      })
 
   -- ---- it enters
 
   -- A publisher entered these fields, with its book and its contents.
-  pub record HasEntered (given : PublisherSettings) (slots place : ℕ) (x : PublisherFields) (book : Book) (slot_contents : List (ContentState T U)) (books : Slab Book) (before new : Fields T U) : Type 0 where
-    pub publisher : x ≡ entering_publisher before.next_port place (before.books).vacant_key given slots x.loan_room (buffer [] (before.config).history_size) x.key_room
+  pub record HasEntered (given : PublisherSettings) (slots place : ℕ) (x : PublisherFields) (book : Book)
+      (slot_contents : List (ContentState T U)) (books : Slab Book) (before new : Fields T U) : Type 0 where
+    pub publisher : x ≡ entering_publisher before.next_port place (before.books).vacant_key given slots x.loan_room
+        (buffer [] (before.config).history_size) x.key_room
     pub room : HasPublisherRoom before.config x
     pub is_its : book.publisher ≡ before.next_port
     pub names_node : book.node ≡ (before.config).node_id
     pub unused : book.holders ≡ replicate slots 0
     pub aligned : IsAligned book
     pub contents_length : length slot_contents ≡ slots
-    pub contents_room : All (λ content. slot_length given.initial_max_slice_len * (before.config).units_per_element ≤ content.room) slot_contents
+    pub contents_room : All (λ content.
+        slot_length given.initial_max_slice_len * (before.config).units_per_element ≤ content.room) slot_contents
     pub contents_closed : All (λ content. content.cells ≡ []) slot_contents
-    pub contents_form : is_single_valued before.config ≡ false → All (λ content. content.is_in_place ≡ false) slot_contents
-    pub contents_lists : All (λ content. content.lists ≡ cell_lists before.config given.max_loaned_samples) slot_contents
+    pub contents_form : is_single_valued before.config ≡ false
+        → All (λ content. content.is_in_place ≡ false) slot_contents
+    pub contents_lists : All
+        (λ content. content.lists ≡ cell_lists before.config given.max_loaned_samples) slot_contents
     pub vacant : get before.books (before.books).vacant_key ≡ None
     pub updates : Updates before.books books (before.books).vacant_key (Some book)
     pub changed : new ≡ record before {
@@ -147,16 +173,22 @@ module _ {T U : Type 0} (f : Fields T U) where
       contents = placed before.contents (before.books).vacant_key slot_contents;
     }
 
-  entered-reaches : IsDomain f → (new : Fields T U) (given : PublisherSettings) (slots place : ℕ) (x : PublisherFields) (book : Book) (slot_contents : List (ContentState T U)) (books : Slab Book)
-      → place_for_publisher f ≡ Ok place → slots ≡ slots_for f.config given → HasEntered given slots place x book slot_contents books f new
+  entered-reaches : IsDomain f → (new : Fields T U) (given : PublisherSettings) (slots place : ℕ) (x : PublisherFields)
+      (book : Book) (slot_contents : List (ContentState T U)) (books : Slab Book)
+      → place_for_publisher f ≡ Ok place → slots ≡ slots_for f.config given
+      → HasEntered given slots place x book slot_contents books f new
       → Reaches f new (with_new_publisher (state_of (kept_of f)) given place)
   entered-reaches sound new given slots place x book slot_contents books h count e =
       let has = has_place place h in
-      let free : get_or f.publishers place None ≡ None = subst (λ (p : ℕ). get_or f.publishers p None ≡ None) has.lowest (lowest_empty-free f.publishers) in
-      let next : place ≤ length f.publishers = subst (λ (p : ℕ). p ≤ length f.publishers) has.lowest (lowest_empty-low f.publishers) in
+      let free : get_or f.publishers place None ≡ None =
+      subst (λ (p : ℕ). get_or f.publishers p None ≡ None) has.lowest (lowest_empty-free f.publishers) in
+      let next : place ≤ length f.publishers =
+      subst (λ (p : ℕ). p ≤ length f.publishers) has.lowest (lowest_empty-low f.publishers) in
       let key : ℕ = (f.books).vacant_key in
       let contents : List (Option (List (ContentState T U))) = placed f.contents key slot_contents in
-      let enters : BookEnters (f.config).node_id f.next_port (slots_for f.config given) (slot_length given.initial_max_slice_len * (f.config).units_per_element) key f.books f.contents books contents = record {
+      let enters : BookEnters (f.config).node_id f.next_port (slots_for f.config given)
+      (slot_length given.initial_max_slice_len * (f.config).units_per_element) key f.books f.contents books contents =
+      record {
         book = book;
         vacant = e.vacant;
         updates = e.updates;
@@ -171,27 +203,36 @@ module _ {T U : Type 0} (f : Fields T U) where
         has_room = e.contents_room;
         closed = e.contents_closed;
       } in
-      let is : x ≡ entering_publisher f.next_port place key given (slots_for f.config given) x.loan_room (buffer [] (f.config).history_size) x.key_room =
-      e.publisher ∙ ap (λ n. entering_publisher f.next_port place key given n x.loan_room (buffer [] (f.config).history_size) x.key_room) count in
+      let is : x ≡ entering_publisher f.next_port place key given (slots_for f.config given) x.loan_room
+      (buffer [] (f.config).history_size) x.key_room =
+      e.publisher ∙ ap (λ n. entering_publisher f.next_port place key given n x.loan_room
+      (buffer [] (f.config).history_size) x.key_room) count in
       let forms : HasForms f.config contents = record {
         at = λ several k zs there. elim (cases_eq k key) [
           | inl here ↦
-              let found : Some slot_contents ≡ Some zs = sym (placed-here slot_contents f.contents key) ∙ sym (ap (λ (j : ℕ). get_or contents j None) here) ∙ there in
+              let found : Some slot_contents ≡ Some zs = sym (placed-here slot_contents f.contents key)
+              ∙ sym (ap (λ (j : ℕ). get_or contents j None) here) ∙ there in
               let is : slot_contents ≡ zs = cc in
               subst (All (λ content. content.is_in_place ≡ false)) is (e.contents_form several)
-          | inr away ↦ sound.parts.forms.at several k zs (sym (placed-others slot_contents f.contents key k away) ∙ there)
+          | inr away ↦
+              sound.parts.forms.at several k zs (sym (placed-others slot_contents f.contents key k away) ∙ there)
         ];
         cells = λ several lists k zs there. elim (cases_eq k key) [
           | inl here ↦
-              let found : Some slot_contents ≡ Some zs = sym (placed-here slot_contents f.contents key) ∙ sym (ap (λ (j : ℕ). get_or contents j None) here) ∙ there in
+              let found : Some slot_contents ≡ Some zs = sym (placed-here slot_contents f.contents key)
+              ∙ sym (ap (λ (j : ℕ). get_or contents j None) here) ∙ there in
               let is : slot_contents ≡ zs = cc in
               subst (All (λ content. 0 < content.lists)) is
-              (All-weaker (λ (content : ContentState T U). content.lists ≡ cell_lists f.config given.max_loaned_samples) (λ (content : ContentState T U). 0 < content.lists)
-              (λ content are. let some = lists-some f.config given.max_loaned_samples several lists in omega (arith, are, some)) slot_contents e.contents_lists)
-          | inr away ↦ sound.parts.forms.cells several lists k zs (sym (placed-others slot_contents f.contents key k away) ∙ there)
+              (All-weaker (λ (content : ContentState T U). content.lists ≡ cell_lists f.config given.max_loaned_samples)
+              (λ (content : ContentState T U). 0 < content.lists)
+              (λ content are. let some = lists-some f.config given.max_loaned_samples several lists in
+              omega (arith, are, some)) slot_contents e.contents_lists)
+          | inr away ↦ sound.parts.forms.cells several lists k zs
+              (sym (placed-others slot_contents f.contents key k away) ∙ there)
         ];
       } in
-      let after : Fields T U = with_admitted f sound place given x.loan_room x.key_room key books contents free enters forms e.contents_lists in
+      let after : Fields T U = with_admitted f sound place given x.loan_room x.key_room key books contents free enters
+      forms e.contents_lists in
       let same : new ≡ after = e.changed ∙ ap (λ (z : PublisherFields). record f {
         next_port = f.next_port + 1;
         publishers = placed f.publishers place z;
@@ -200,12 +241,16 @@ module _ {T U : Type 0} (f : Fields T U) where
         contents = contents;
       }) is in
       subst (λ (g : Fields T U). Reaches f g (with_new_publisher (state_of (kept_of f)) given place)) (sym same)
-      (admitted-reaches f sound place given x.loan_room x.key_room key books contents free enters forms e.contents_lists (subst (HasPublisherRoom f.config) is e.room)
+      (admitted-reaches f sound place given x.loan_room x.key_room key books contents free enters forms e.contents_lists
+      (subst (HasPublisherRoom f.config) is e.room)
       (subst (λ (p : ℕ). suc p ≤ (f.config).max_publishers) has.lowest (ltb-true _ _ has.low)) next)
 
   -- the same, where the fields are known by another name
-  pub entered-reaches-as : (before new : Fields T U) → before ≡ f → IsDomain f → (given : PublisherSettings) (slots place : ℕ) (x : PublisherFields) (book : Book) (slot_contents : List (ContentState T U)) (books : Slab Book)
-      → place_for_publisher f ≡ Ok place → slots ≡ slots_for f.config given → HasEntered given slots place x book slot_contents books before new
+  pub entered-reaches-as : (before new : Fields T U) → before ≡ f → IsDomain f
+      → (given : PublisherSettings) (slots place : ℕ) (x : PublisherFields) (book : Book)
+      (slot_contents : List (ContentState T U)) (books : Slab Book)
+      → place_for_publisher f ≡ Ok place → slots ≡ slots_for f.config given
+      → HasEntered given slots place x book slot_contents books before new
       → Reaches f new (with_new_publisher (state_of (kept_of f)) given place)
   entered-reaches-as before new e sound given slots place x book slot_contents books h count entered =
       entered-reaches sound new given slots place x book slot_contents books h count
@@ -214,14 +259,17 @@ module _ {T U : Type 0} (f : Fields T U) where
   -- ---- a number for it
 
   -- the number past that of a publisher that has a place isn't past the last one
-  pub numbered-low : (before : Fields T U) (place : ℕ) → before ≡ f → place_for_publisher f ≡ Ok place → before.next_port ≢ last_number
+  pub numbered-low : (before : Fields T U) (place : ℕ) → before ≡ f → place_for_publisher f ≡ Ok place
+      → before.next_port ≢ last_number
   numbered-low before place e h last =
-      let no : (before.next_port == last_number) ≡ false = ap (λ (g : Fields T U). g.next_port == last_number) e ∙ (has_place place h).numbered in
+      let no : (before.next_port == last_number) ≡ false =
+      ap (λ (g : Fields T U). g.next_port == last_number) e ∙ (has_place place h).numbered in
       let yes : (before.next_port == last_number) ≡ true = eq-eqb before.next_port last_number last in
       absurd cc
 
   -- no place before it is free
-  pub place-low : (before : Fields T U) (place : ℕ) → before ≡ f → place_for_publisher f ≡ Ok place → place ≤ length before.publishers
+  pub place-low : (before : Fields T U) (place : ℕ) → before ≡ f → place_for_publisher f ≡ Ok place
+      → place ≤ length before.publishers
   place-low before place e h =
       subst (λ (g : Fields T U). place ≤ length g.publishers) (sym e)
       (subst (λ (p : ℕ). p ≤ length f.publishers) (has_place place h).lowest (lowest_empty-low f.publishers))

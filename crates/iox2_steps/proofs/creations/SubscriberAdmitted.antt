@@ -24,12 +24,15 @@ module _ {T U : Type 0} (f : Fields T U) where
   -- a place at which nothing stands is free in the state
   pub occupant-free : (xs : List (Option SubscriberFields)) (place : ℕ) → get_or xs place None ≡ None
       → occupant (ids (map (option_map (subscriber_of f.books f.connections)) xs)) place ≡ None
-  occupant-free xs place free = named-at (subscriber_of f.books f.connections) xs place ∙ ap (option_map (λ (x : SubscriberFields). x.id)) free
+  occupant-free xs place free =
+      named-at (subscriber_of f.books f.connections) xs place ∙ ap (option_map (λ (x : SubscriberFields). x.id)) free
 
-module _ {T U : Type 0} (f : Fields T U) (sound : IsDomain f) (warnings : WarningRing) (place : ℕ) (given : SubscriberSettings) (key_room expired_room : ℕ) (free : get_or f.subscribers place None ≡ None) where
+module _ {T U : Type 0} (f : Fields T U) (sound : IsDomain f) (warnings : WarningRing) (place : ℕ)
+    (given : SubscriberSettings) (key_room expired_room : ℕ) (free : get_or f.subscribers place None ≡ None) where
   -- the fields with every publisher due, and with the new subscriber
   abbrev pub with_admitted : Fields T U
-  with_admitted = with_entered_subscriber (with_publishers_due f) (publishers_due-agree f sound) warnings place given key_room expired_room free
+  with_admitted = with_entered_subscriber (with_publishers_due f)
+      (publishers_due-agree f sound) warnings place given key_room expired_room free
 
   -- the machine's step
   pub admitted-is : warnings.items ≡ (with_buffer_warning (state_of (kept_of f)) f.next_port).warnings
@@ -45,8 +48,12 @@ module _ {T U : Type 0} (f : Fields T U) (sound : IsDomain f) (warnings : Warnin
       ∙ ap (λ (ws : Warnings). record (with_new_subscriber (state_of (kept_of f)) given place) { warnings = ws }) warned
 
   -- the invariant is kept
-  pub admitted-agrees : warnings.items ≡ (with_buffer_warning (state_of (kept_of f)) f.next_port).warnings → warnings.capacity ≡ warning_limit
-      → buffer_for given ≤ buffer_limit f.config → place < (f.config).max_subscribers → place ≤ length f.subscribers → IsDomain with_admitted
+  pub admitted-agrees : warnings.items ≡ (with_buffer_warning (state_of (kept_of f)) f.next_port).warnings
+      → warnings.capacity ≡ warning_limit
+      → buffer_for given ≤ buffer_limit f.config → place < (f.config).max_subscribers → place ≤ length f.subscribers
+      → IsDomain with_admitted
   admitted-agrees warned room fits low next =
-      entered-agrees (with_publishers_due f) (publishers_due-agree f sound) warnings place given key_room expired_room free room next
-      (rw (admitted-is warned) (new_subscriber_keeps (state_of (kept_of f)) sound.well_formed given place fits low (occupant-free f f.subscribers place free)))
+      entered-agrees (with_publishers_due f)
+      (publishers_due-agree f sound) warnings place given key_room expired_room free room next
+      (rw (admitted-is warned) (new_subscriber_keeps (state_of (kept_of f)) sound.well_formed given place fits low
+      (occupant-free f f.subscribers place free)))

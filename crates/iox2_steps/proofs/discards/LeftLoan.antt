@@ -1,5 +1,6 @@
 -- A loan is given back whose publisher is gone: its slot is free, and its book goes with its last holder.
-use Rattle.std.proofs.Common.{◌≡◌, ◌≢◌, ℕ, ◌+◌, ◌<◌, ◌&&◌, true, false, cond, List, length, get_or, refl, ap, sym, subst, ◌∙◌, inl, inr, ◌⊎◌, arith}
+use Rattle.std.proofs.Common.{◌≡◌, ◌≢◌, ℕ, ◌+◌, ◌<◌, ◌&&◌, true, false, cond, List, length, get_or, refl, ap, sym}
+use Rattle.std.proofs.Common.{subst, ◌∙◌, inl, inr, ◌⊎◌, arith}
 use Rattle.std.proofs.lemmas.Bool.{cases_eq, ne_eqb, eq-eqb}
 use Rattle.std.specs.Prelude.{nat_lt, slice_get, IsSomeAnd, MatchOption}
 use Rattle.std.specs.List.{sum_by}
@@ -27,15 +28,19 @@ use Rattle.iox2_domain.specs.LoanSlots.{LiesInSlot}
 use Rattle.iox2_domain.specs.Ports.{PublisherFields}
 use Rattle.iox2_domain.specs.Kept.{Lent_message, state_of, entry_in}
 use Rattle.iox2_domain.specs.Fields.{Fields, kept_of, is_book_of, contents_at}
-use Rattle.iox2_domain.specs.Invariant.{IsDomain, HasLoneLoans, HasNumber, IsCounted, is_publisher, own_holders, holders_of, is_lent, is_loan_in, HasParts}
+use Rattle.iox2_domain.specs.Invariant.{IsDomain, HasLoneLoans, HasNumber, IsCounted, is_publisher, own_holders}
+use Rattle.iox2_domain.specs.Invariant.{holders_of, is_lent, is_loan_in, HasParts}
 use Rattle.iox2_domain.specs.Reaches.{Reaches}
 use Rattle.iox2_domain.specs.SentLoans.{SendsKeptLoan}
 use Rattle.iox2_domain.specs.Shows.{KeepsEntries}
 use Rattle.iox2_domain.proofs.lemmas.fields.NamedBooks.{names-books}
 use Rattle.iox2_domain.proofs.lemmas.fields.Views.{held-before}
-use Rattle.iox2_domain.proofs.lemmas.slots.BookChanges.{KeepsSlots, book-after, book-here, book-others, other-book, books-apart, book-state, books-changed, linked-book}
+use Rattle.iox2_domain.proofs.lemmas.slots.BookChanges.{KeepsSlots, book-after, book-here, book-others, other-book}
+use Rattle.iox2_domain.proofs.lemmas.slots.BookChanges.{books-apart, book-state, books-changed, linked-book}
 use Rattle.iox2_domain.proofs.lemmas.slots.HeldMessages.{held-message-slot}
-use Rattle.iox2_domain.proofs.lemmas.slots.HolderGone.{given, left, keeps_slots, free, others-held, given-aligned, left-numbered, unnumbered, others-same, left-entries, left-places, left-loans, left-shapes, left-lone}
+use Rattle.iox2_domain.proofs.lemmas.slots.HolderGone.{given, left, keeps_slots, free, others-held, given-aligned}
+use Rattle.iox2_domain.proofs.lemmas.slots.HolderGone.{left-numbered, unnumbered, others-same, left-entries}
+use Rattle.iox2_domain.proofs.lemmas.slots.HolderGone.{left-places, left-loans, left-shapes, left-lone}
 use Rattle.iox2_domain.proofs.lemmas.slots.LeftConnections.{unknown, stands-nowhere}
 use Rattle.iox2_domain.proofs.lemmas.slots.LoneLoans.{is-loan}
 use Rattle.iox2_domain.proofs.lemmas.slots.OpenLoans.{open-rebooked}
@@ -44,7 +49,8 @@ use Rattle.iox2_domain.proofs.lemmas.slots.Messages.{lies_at, message_in-parts, 
 use Rattle.iox2_domain.proofs.lemmas.slots.RecountedLoans.{loan-publisher}
 use Rattle.iox2_domain.proofs.lemmas.fields.PlacesKept.{places-then}
 
-module _ {T U : Type 0} (f : Fields T U) (sound : IsDomain f) (p n key slot : ℕ) (at : LiesInSlot f p n key slot) (none : look_up (is_publisher p) f.publishers ≡ None) where
+module _ {T U : Type 0} (f : Fields T U) (sound : IsDomain f) (p n key slot : ℕ) (at : LiesInSlot f p n key slot)
+    (none : look_up (is_publisher p) f.publishers ≡ None) where
   abbrev was : State T U
   was = state_of (kept_of f)
 
@@ -84,42 +90,77 @@ module _ {T U : Type 0} (f : Fields T U) (sound : IsDomain f) (p n key slot : �
       (option_map_or (λ c. cond (is_loan_in c s) 1 0) book 0)
 
   counted : IsCounted after
-  counted = record { at = λ q s. elim (cases_eq q (at.book).publisher) [ inl same ↦ rw same (its s) | inr away ↦ others q s away ] } where
-    its : (s : ℕ) → holders_of after.books (at.book).publisher s ≡ own_holders after (at.book).publisher s + sum_by (stands (at.book).publisher s) f.connections.slots
+  counted = record {
+    at = λ q s.
+        elim (cases_eq q (at.book).publisher) [ inl same ↦ rw same (its s) | inr away ↦ others q s away ];
+  } where
+    its : (s : ℕ) → holders_of after.books (at.book).publisher s ≡ own_holders after (at.book).publisher s + sum_by
+        (stands (at.book).publisher s) f.connections.slots
     its s =
         let found : look_up (is_book_of (at.book).publisher) f.books.slots ≡ Some at.book =
-        look_up-found (is_book_of (at.book).publisher) f.books.slots key at.book (sound.parts.books.one_each (at.book).publisher) at.stands (eq-eqb (at.book).publisher (at.book).publisher refl) in
+        look_up-found (is_book_of (at.book).publisher) f.books.slots key at.book
+        (sound.parts.books.one_each (at.book).publisher) at.stands
+        (eq-eqb (at.book).publisher (at.book).publisher refl) in
         let is : look_up (is_book_of (at.book).publisher) after.books.slots ≡ Some now =
-        look_up-found (is_book_of (at.book).publisher) after.books.slots key now (books-apart f key at.book now at.stands keeps sound.parts.books.one_each (at.book).publisher)
+        look_up-found (is_book_of (at.book).publisher) after.books.slots key now
+        (books-apart f key at.book now at.stands keeps sound.parts.books.one_each (at.book).publisher)
         (book-here f key at.book now at.stands keeps) (eq-eqb (at.book).publisher (at.book).publisher refl) in
-        let holders : holders_of after.books (at.book).publisher s ≡ holders_at now s = ap (λ o. option_map_or (λ (c : Book). holders_at c s) o 0) is in
-        let held : holders_of f.books (at.book).publisher s ≡ holders_at at.book s = ap (λ o. option_map_or (λ (c : Book). holders_at c s) o 0) found in
-        let owns : own_holders after (at.book).publisher s ≡ cond (is_loan_in now s) 1 0 = ap (λ o. own s o (look_up (is_book_of (at.book).publisher) after.books.slots)) nobody ∙ ap (own s None) is in
-        let owned : own_holders f (at.book).publisher s ≡ cond (is_loan_in at.book s) 1 0 = ap (λ o. own s o (look_up (is_book_of (at.book).publisher) f.books.slots)) nobody ∙ ap (own s None) found in
+        let holders : holders_of after.books (at.book).publisher s ≡ holders_at now s =
+        ap (λ o. option_map_or (λ (c : Book). holders_at c s) o 0) is in
+        let held : holders_of f.books (at.book).publisher s ≡ holders_at at.book s =
+        ap (λ o. option_map_or (λ (c : Book). holders_at c s) o 0) found in
+        let owns : own_holders after (at.book).publisher s ≡ cond (is_loan_in now s) 1 0 =
+        ap (λ o. own s o (look_up (is_book_of (at.book).publisher) after.books.slots)) nobody ∙ ap (own s None) is in
+        let owned : own_holders f (at.book).publisher s ≡ cond (is_loan_in at.book s) 1 0 =
+        ap (λ o. own s o (look_up (is_book_of (at.book).publisher) f.books.slots)) nobody ∙ ap (own s None) found in
         by s holders held owns owned (cases_eq s slot)
       where
-        by : (s : ℕ) → holders_of after.books (at.book).publisher s ≡ holders_at now s → holders_of f.books (at.book).publisher s ≡ holders_at at.book s
-            → own_holders after (at.book).publisher s ≡ cond (is_loan_in now s) 1 0 → own_holders f (at.book).publisher s ≡ cond (is_loan_in at.book s) 1 0
+        by : (s : ℕ) → holders_of after.books (at.book).publisher s ≡ holders_at now s
+            → holders_of f.books (at.book).publisher s ≡ holders_at at.book s
+            → own_holders after (at.book).publisher s ≡ cond (is_loan_in now s) 1 0
+            → own_holders f (at.book).publisher s ≡ cond (is_loan_in at.book s) 1 0
             → (s ≡ slot) ⊎ (s ≢ slot)
-            → holders_of after.books (at.book).publisher s ≡ own_holders after (at.book).publisher s + sum_by (stands (at.book).publisher s) f.connections.slots
+            → holders_of after.books (at.book).publisher s ≡ own_holders after (at.book).publisher s + sum_by
+            (stands (at.book).publisher s) f.connections.slots
         by s holders held owns owned (inl same) =
-            let none_now : holders_at now s ≡ 0 = ap (holders_at now) same ∙ free f parts key at.book at.stands slot n at.loan lies alone in
+            let none_now : holders_at now s ≡ 0 =
+            ap (holders_at now) same ∙ free f parts key at.book at.stands slot n at.loan lies alone in
             let one_then : holders_at at.book s ≡ 1 = ap (holders_at at.book) same ∙ alone in
-            let no : cond {A = ℕ} (is_loan_in now s) 1 0 ≡ 0 = ap (λ h. cond {A = ℕ} (nat_lt 0 h && option_map_or is_lent (slice_get (at.book).marks s) false) 1 0) none_now in
-            let yes : cond {A = ℕ} (is_loan_in at.book s) 1 0 ≡ 1 = ap (λ t. cond {A = ℕ} t 1 0) (ap (is_loan_in at.book) same ∙ is_loan) in
-            omega (arith, holders, held, owns, owned, none_now, one_then, no, yes, sound.parts.counted.at (at.book).publisher s)
+            let no : cond {A = ℕ} (is_loan_in now s) 1 0 ≡ 0 =
+            ap (λ h. cond {A = ℕ} (nat_lt 0 h && option_map_or is_lent (slice_get (at.book).marks s) false) 1 0)
+            none_now in
+            let yes : cond {A = ℕ} (is_loan_in at.book s) 1 0 ≡ 1 =
+            ap (λ t. cond {A = ℕ} t 1 0) (ap (is_loan_in at.book) same ∙ is_loan) in
+            omega (
+              arith,
+              holders,
+              held,
+              owns,
+              owned,
+              none_now,
+              one_then,
+              no,
+              yes,
+              sound.parts.counted.at (at.book).publisher s,
+            )
         by s holders held owns owned (inr away) =
-            let alike : holders_at now s ≡ holders_at at.book s = others-held f parts key at.book at.stands slot n at.loan lies alone s away in
-            let same : cond {A = ℕ} (is_loan_in now s) 1 0 ≡ cond {A = ℕ} (is_loan_in at.book s) 1 0 = ap (λ h. cond {A = ℕ} (nat_lt 0 h && option_map_or is_lent (slice_get (at.book).marks s) false) 1 0) alike in
+            let alike : holders_at now s ≡ holders_at at.book s =
+            others-held f parts key at.book at.stands slot n at.loan lies alone s away in
+            let same : cond {A = ℕ} (is_loan_in now s) 1 0 ≡ cond {A = ℕ} (is_loan_in at.book s) 1 0 =
+            ap (λ h. cond {A = ℕ} (nat_lt 0 h && option_map_or is_lent (slice_get (at.book).marks s) false) 1 0)
+            alike in
             omega (arith, holders, held, owns, owned, alike, same, sound.parts.counted.at (at.book).publisher s)
 
-    others : (q s : ℕ) → q ≢ (at.book).publisher → holders_of after.books q s ≡ own_holders after q s + sum_by (stands q s) f.connections.slots
+    others : (q s : ℕ) → q ≢ (at.book).publisher
+        → holders_of after.books q s ≡ own_holders after q s + sum_by (stands q s) f.connections.slots
     others q s away =
         let book : look_up (is_book_of q) after.books.slots ≡ look_up (is_book_of q) f.books.slots =
-        other-book f key at.book now at.stands keeps sound.parts.books.one_each q (ne_eqb (at.book).publisher q (λ same. away (sym same))) in
+        other-book f key at.book now at.stands keeps sound.parts.books.one_each q
+        (ne_eqb (at.book).publisher q (λ same. away (sym same))) in
         ap (λ o. option_map_or (λ (c : Book). holders_at c s) o 0) book
         ∙ sound.parts.counted.at q s
-        ∙ ap (λ k. k + sum_by (stands q s) f.connections.slots) (sym (ap (own s (look_up (is_publisher q) f.publishers)) book))
+        ∙ ap (λ k. k + sum_by (stands q s) f.connections.slots)
+        (sym (ap (own s (look_up (is_publisher q) f.publishers)) book))
 
   -- ---- the parts
 
@@ -130,7 +171,8 @@ module _ {T U : Type 0} (f : Fields T U) (sound : IsDomain f) (p n key slot : �
     apart = sound.parts.apart;
     linked = linked-book f key at.book now at.stands keeps sound.parts.linked;
     expired_room = sound.parts.expired_room;
-    books = books-changed f key at.book now at.stands keeps sound.parts.books (given-aligned f parts key at.book at.stands slot n at.loan lies alone);
+    books = books-changed f key at.book now at.stands keeps sound.parts.books
+        (given-aligned f parts key at.book at.stands slot n at.loan lies alone);
     names = names-books f.books _ f.connections (book-after f key at.book now at.stands keeps) sound.parts.names;
     counted = counted;
     numbered = left-numbered f parts key at.book at.stands slot n at.loan lies alone;
@@ -151,10 +193,12 @@ module _ {T U : Type 0} (f : Fields T U) (sound : IsDomain f) (p n key slot : �
   left-is : state_of (kept_of after) ≡ lost
   left-is =
       book-state f key at.book now at.stands keeps sound.parts.books.one_each
-      ∙ ap (λ (loans : ℕ → Option (Loan T U)). record was { loans = loans }) (left-loans f parts key at.book at.stands slot n at.loan lies alone)
+      ∙ ap (λ (loans : ℕ → Option (Loan T U)). record was { loans = loans })
+      (left-loans f parts key at.book at.stands slot n at.loan lies alone)
 
   lent-by : at.loan.publisher ≡ p
-  lent-by = loan-publisher at.book (contents_at f.contents key) slot n at.loan (message_in-parts at.book (contents_at f.contents key) slot _ at.lies) ∙ at.is_its
+  lent-by = loan-publisher at.book (contents_at f.contents key) slot n at.loan
+      (message_in-parts at.book (contents_at f.contents key) slot _ at.lies) ∙ at.is_its
 
   absent : was.publishers at.loan.publisher ≡ None
   absent = ap was.publishers lent-by ∙ unknown f p (stands-nowhere f.publishers p none)
@@ -165,23 +209,31 @@ module _ {T U : Type 0} (f : Fields T U) (sound : IsDomain f) (p n key slot : �
     without_loan : Publisher → Publisher
     without_loan y = record y { loans = without n y.loans }
 
-    same : was.publishers ≡ put_at was.publishers at.loan.publisher (option_map without_loan (was.publishers at.loan.publisher))
-    same = put_at-own was.publishers at.loan.publisher ∙ ap (put_at was.publishers at.loan.publisher) (absent ∙ sym (ap (option_map without_loan) absent))
+    same : was.publishers ≡ put_at was.publishers at.loan.publisher
+        (option_map without_loan (was.publishers at.loan.publisher))
+    same = put_at-own was.publishers at.loan.publisher
+        ∙ ap (put_at was.publishers at.loan.publisher) (absent ∙ sym (ap (option_map without_loan) absent))
 
   lost-well : IsWellFormed lost
   lost-well = subst IsWellFormed discarded-is (loan_discarded_keeps was sound.well_formed n at.loan at.is_out)
 
   held-still : (q m : ℕ) → IsHeldMessage lost q m → IsHeldMessage was q m
-  held-still q m held = held-before was lost q m (λ r. refl) (λ y here. (y, here, record { history = refl; blocked = refl })) held
+  held-still q m held =
+      held-before was lost q m (λ r. refl) (λ y here. (y, here, record { history = refl; blocked = refl })) held
 
   entries-kept : KeepsEntries (kept_of after)
   entries-kept q m is = elim (cases_eq m n) [
     | inl same ↦
         let there = held-message-slot after counted sound.parts.publisher_ids sound.parts.plain q m is in
-        absurd (unnumbered f parts key at.book at.stands slot n at.loan lies alone there.0 there.1 (subst (HasNumber after.books there.0 there.1) same there.2))
+        absurd (unnumbered f parts key at.book at.stands slot n at.loan lies alone there.0 there.1
+        (subst (HasNumber after.books there.0 there.1) same there.2))
     | inr away ↦
-        let old = sound.entries q m (held-still q m (subst (λ (s : State T U). IsHeldMessage s q m) left-is is)) in
-        (old.0, ap (option_and_then entry_in) (others-same f parts key at.book at.stands slot n at.loan lies alone m away) ∙ old.1, old.2)
+        let old = sound.entries q m (held-still q m (subst (λ (s : State T U). IsHeldMessage s q m) left-is is)) in (
+          old.0,
+          ap (option_and_then entry_in)
+              (others-same f parts key at.book at.stands slot n at.loan lies alone m away) ∙ old.1,
+          old.2,
+        )
   ]
 
   lone-left : HasLoneLoans after.books
@@ -203,7 +255,8 @@ module _ {T U : Type 0} (f : Fields T U) (sound : IsDomain f) (p n key slot : �
     in_use = record { in_bounds = at.loan_slot.in_bounds; in_use = at.loan_slot.in_use };
     contents = low (get_or f.contents key None) refl (sound.parts.books.books key at.book at.stands).shaped;
   } where
-    low : (o : Option (List (ContentState T U))) → get_or f.contents key None ≡ o → IsSomeAnd o (λ cs. length cs ≡ length (at.book).holders) → key < length f.contents
+    low : (o : Option (List (ContentState T U))) → get_or f.contents key None ≡ o
+        → IsSomeAnd o (λ cs. length cs ≡ length (at.book).holders) → key < length f.contents
     low None e h = absurd h
     low (Some cs) e h = within_if_some f.contents key cs e
 
@@ -212,7 +265,8 @@ module _ {T U : Type 0} (f : Fields T U) (sound : IsDomain f) (p n key slot : �
   left-reaches new l = record {
     agrees = settled.agrees;
     state = settled.state ∙ left-is ∙ sym discarded-is;
-    entries = λ m entry e. left-entries f parts key at.book at.stands slot n at.loan lies alone m entry (settled.entries m entry e);
+    entries = λ m entry e.
+        left-entries f parts key at.book at.stands slot n at.loan lies alone m entry (settled.entries m entry e);
     places = places-then (left-places f parts key at.book at.stands slot n at.loan lies alone) settled.places;
   } where
     same : l.book ≡ at.book
@@ -220,7 +274,8 @@ module _ {T U : Type 0} (f : Fields T U) (sound : IsDomain f) (p n key slot : �
 
     settled : Reaches after new (state_of (kept_of after))
     settled =
-        settles after left-parts lone-left (subst IsWellFormed (sym left-is) lost-well) entries-kept key now (book-here f key at.book now at.stands keeps) known gone
+        settles after left-parts lone-left (subst IsWellFormed (sym left-is) lost-well) entries-kept key now
+        (book-here f key at.book now at.stands keeps) known gone
         (λ k c away there. sound.kept_books.at k c (sym (book-others f key at.book now at.stands keeps k away) ∙ there))
         new (subst (λ (c : Book). SettlesBook (with_holder_left f key slot c) key new) same l.settles)
 
@@ -229,7 +284,8 @@ module _ {T U : Type 0} (f : Fields T U) (sound : IsDomain f) (p n key slot : �
   left-discarded new l = (at.loan, at.is_out, left-reaches new l)
 
   -- what a send of it comes to: the loan is lost, and nobody gets the message
-  pub left-sent : (environment : Environment) (new : Fields T U) → LetsGo f key slot new → SendsKeptLoan environment f new n (Send_error ConnectionBrokenSinceSenderNoLongerExists)
+  pub left-sent : (environment : Environment) (new : Fields T U) → LetsGo f key slot new
+      → SendsKeptLoan environment f new n (Send_error ConnectionBrokenSinceSenderNoLongerExists)
   left-sent environment new l = record {
     loan = at.loan;
     out = at.is_out;

@@ -23,7 +23,8 @@ use Rattle.iox2_domain.specs.Deliveries.{with_loan_out}
 use Rattle.iox2_domain.specs.Ports.{PublisherFields}
 use Rattle.iox2_domain.specs.Kept.{Kept, Lent_message, state_of, entries_of, entry_in}
 use Rattle.iox2_domain.specs.Fields.{Fields, kept_of, publisher_of, number_in_slot, contents_at, contents_in}
-use Rattle.iox2_domain.specs.Invariant.{IsDomain, IsOwned, KeepsBooks, HasBooks, HasForms, HasOpenLoans, HasShapes, HasNumber, HasParts, LendsBlocked, cell_count}
+use Rattle.iox2_domain.specs.Invariant.{IsDomain, IsOwned, KeepsBooks, HasBooks, HasForms, HasOpenLoans, HasShapes}
+use Rattle.iox2_domain.specs.Invariant.{HasNumber, HasParts, LendsBlocked, cell_count}
 use Rattle.iox2_domain.specs.Reaches.{Reaches}
 use Rattle.iox2_domain.specs.Shows.{KeepsEntries}
 use Rattle.iox2_domain.proofs.lemmas.fields.ConnectionEnds.{publisher-stands}
@@ -40,13 +41,16 @@ use Rattle.iox2_domain.proofs.lemmas.slots.SlotCells.{cells-here, cells-elsewher
 use Rattle.iox2_domain.proofs.lemmas.slots.SlotChanges.{forms-changed, lists-changed}
 use Rattle.iox2_steps.proofs.sends.LoanAlone.{loan-number, loan-is, loan-of, loan-slot, loan-once, blocked-other}
 use Rattle.iox2_steps.proofs.sends.SentSlots.{times-without-one, map-without}
-use Rattle.iox2_domain.proofs.lemmas.slots.HolderGone.{keeps_slots, free, fewer-holders, given-aligned, left-numbered, unnumbered, others-same, left-entries, left-places, left-loans, left-shapes, left-lone}
+use Rattle.iox2_domain.proofs.lemmas.slots.HolderGone.{keeps_slots, free, fewer-holders, given-aligned, left-numbered}
+use Rattle.iox2_domain.proofs.lemmas.slots.HolderGone.{unnumbered, others-same, left-entries, left-places, left-loans}
+use Rattle.iox2_domain.proofs.lemmas.slots.HolderGone.{left-shapes, left-lone}
 use Rattle.iox2_domain.proofs.lemmas.slots.BookChanges.{KeepsSlots, book-here}
 use Rattle.iox2_domain.proofs.lemmas.slots.HeldMessages.{held-message-slot}
 use Rattle.iox2_domain.proofs.lemmas.slots.Messages.{lies_at}
 use Rattle.iox2_domain.proofs.lemmas.slots.PublisherBooks.{book-own, book-owned}
 
-module _ {T U : Type 0} (f : Fields T U) (sound : IsDomain f) (i : ℕ) (x : PublisherFields) (here : get_or f.publishers i None ≡ Some x)
+module _ {T U : Type 0} (f : Fields T U) (sound : IsDomain f) (i : ℕ) (x : PublisherFields)
+    (here : get_or f.publishers i None ≡ Some x)
     (b : Book) (at : get f.books x.book ≡ Some b) (slot n : ℕ) (l : Loan T U)
     (lies : lies_at f x.book slot ≡ Some (Lent_message n l)) (alone : holders_at b slot ≡ 1) where
   -- the book afterwards
@@ -55,7 +59,8 @@ module _ {T U : Type 0} (f : Fields T U) (sound : IsDomain f) (i : ℕ) (x : Pub
 
   -- the fields with the slot's cells still
   abbrev mid : Fields T U
-  mid = record f { publishers = slice_set f.publishers i (Some (with_loan_out slot x)); books = with_value f.books x.book given }
+  mid = record f
+      { publishers = slice_set f.publishers i (Some (with_loan_out slot x)); books = with_value f.books x.book given }
 
   -- the fields afterwards
   abbrev pub returned : Fields T U
@@ -102,15 +107,22 @@ module _ {T U : Type 0} (f : Fields T U) (sound : IsDomain f) (i : ℕ) (x : Pub
   -- the machine's step
   mid-is : state_of (kept_of mid) ≡ loan_discarded was n l
   mid-is =
-      own-is f parts i x here b at mine (with_loan_out slot x) keeps given same-slots (put_at was.loans n None) (left-loans f parts x.book b at slot n l lies alone)
-      ∙ ap (λ (o : Option Publisher). record was { publishers = put_at was.publishers x.id o; loans = put_at was.loans n None }) port
-      ∙ ap (λ (p : ℕ). record was { publishers = put_at was.publishers p (option_map without_loan (was.publishers p)); loans = put_at was.loans n None })
+      own-is f parts i x here b at mine (with_loan_out slot x) keeps given same-slots (put_at was.loans n None)
+      (left-loans f parts x.book b at slot n l lies alone)
+      ∙ ap (λ (o : Option Publisher).
+      record was { publishers = put_at was.publishers x.id o; loans = put_at was.loans n None }) port
+      ∙ ap (λ (p : ℕ). record was {
+        publishers = put_at was.publishers p (option_map without_loan (was.publishers p));
+        loans = put_at was.loans n None;
+      })
       (sym (loan-of f sound i x here slot n l lies))
     where
-      port : Some ((publisher_of f.books f.connections (with_loan_out slot x)).port) ≡ option_map without_loan (was.publishers x.id)
+      port : Some ((publisher_of f.books f.connections (with_loan_out slot x)).port) ≡ option_map without_loan
+          (was.publishers x.id)
       port =
           ap (λ ns. Some (record (publisher_of f.books f.connections x).port { loans = ns }))
-          (map-without (number_in_slot f.books x.id) slot n (loan-number f sound i x here slot n l lies) x.loans (loan-slot f sound i x here slot n l lies))
+          (map-without (number_in_slot f.books x.id) slot n (loan-number f sound i x here slot n l lies) x.loans
+          (loan-slot f sound i x here slot n l lies))
           ∙ sym (ap (option_map without_loan) (publisher-stands f sound.parts i x here))
 
   returned-is : state_of (kept_of returned) ≡ loan_discarded was n l
@@ -124,40 +136,57 @@ module _ {T U : Type 0} (f : Fields T U) (sound : IsDomain f) (i : ℕ) (x : Pub
   -- the fields agree with one another
   returned-parts : HasParts returned
   returned-parts =
-      own-parts_with f parts i x here b at mine (with_loan_out slot x) keeps given same-slots (λ s. omega (arith, fewer-holders f parts x.book b at slot n l lies alone s, fewer-loans s))
+      own-parts_with f parts i x here b at mine (with_loan_out slot x) keeps given same-slots
+      (λ s. omega (arith, fewer-holders f parts x.book b at slot n l lies alone s, fewer-loans s))
       returned.contents refl lends (left-numbered f parts x.book b at slot n l lies alone)
-      (rewritten-books mid x.book cs has slot ended_content given given-here (λ c. refl) mid-books) shapes forms open_loans
+      (rewritten-books mid x.book cs has slot ended_content given given-here (λ c. refl) mid-books) shapes forms
+      open_loans
     where
       mid-books : HasBooks mid
-      mid-books = own-books f parts i x here b at mine (with_loan_out slot x) keeps given same-slots (λ s. omega (arith, fewer-holders f parts x.book b at slot n l lies alone s, fewer-loans s))
+      mid-books = own-books f parts i x here b at mine (with_loan_out slot x) keeps given same-slots
+          (λ s. omega (arith, fewer-holders f parts x.book b at slot n l lies alone s, fewer-loans s))
           (given-aligned f parts x.book b at slot n l lies alone)
 
       shapes : HasShapes returned
       shapes = record {
         at = λ k s c m stands lying.
-            (left-shapes f parts x.book b at slot n l lies alone).at k s c m stands (sym (rewritten-lies mid x.book cs has slot ended_content given given-here slot-free k s c stands) ∙ lying);
+            (left-shapes f parts x.book b at slot n l lies alone).at k s c m stands
+            (sym (rewritten-lies mid x.book cs has slot ended_content given given-here slot-free k s c stands) ∙ lying);
       }
 
       forms : HasForms f.config returned.contents
       forms = forms-changed f.config f.contents x.book slot cs has ended_content (λ c. refl) (λ c. refl) parts.forms
 
-      its-lists : HasItsLists f parts i x here (with_loan_out slot x) b given at returned.contents (rewritten-others f x.book cs has slot ended_content)
-      its-lists = kept-lists f parts i x here (with_loan_out slot x) b given at returned.contents (rewritten-others f x.book cs has slot ended_content)
+      its-lists : HasItsLists f parts i x here (with_loan_out slot x) b given at returned.contents
+          (rewritten-others f x.book cs has slot ended_content)
+      its-lists = kept-lists f parts i x here (with_loan_out slot x) b given at returned.contents
+          (rewritten-others f x.book cs has slot ended_content)
           (lists-changed f.contents x.book slot cs has ended_content (λ c. refl))
 
       -- the slot has no cells, and the others are as they were
       open_loans : HasOpenLoans f.config returned.publishers returned.books returned.contents
-      open_loans = open-own f parts i x here (with_loan_out slot x) b given at returned.contents (rewritten-others f x.book cs has slot ended_content) refl refl (λ s some. elim (cases_eq s slot) [
-        | inl same ↦ absurd (let none = cells-here f.contents x.book cs has slot ended_content (subst (λ (j : ℕ). 0 < cell_count returned.contents x.book j) same some) in let no : 0 < 0 = none.2 in omega arith)
-        | inr away ↦
-            let before : cell_count returned.contents x.book s ≡ cell_count f.contents x.book s = cells-elsewhere f.contents x.book cs has slot ended_content x.book s (λ both. away both.1) in
-            let loan = parts.open_loans.at i s x here (subst (λ (k : ℕ). 0 < k) before some) in
-            (omega (arith, loan.out, fewer-loans s, one_if_other s slot away), sym (mark-here f.books x.book b at s) ∙ loan.unwritten)
-      ]) its-lists
+      open_loans = open-own f parts i x here (with_loan_out slot x) b given at returned.contents
+          (rewritten-others f x.book cs has slot ended_content) refl refl (λ s some. elim (cases_eq s slot) [
+            | inl same ↦ absurd (let none = cells-here f.contents x.book cs has slot ended_content
+                (subst (λ (j : ℕ). 0 < cell_count returned.contents x.book j) same some) in let no : 0 < 0 = none.2 in
+                omega arith)
+            | inr away ↦
+                let before : cell_count returned.contents x.book s ≡ cell_count f.contents x.book s =
+                cells-elsewhere f.contents x.book cs has slot ended_content x.book s (λ both. away both.1) in
+                let loan = parts.open_loans.at i s x here (subst (λ (k : ℕ). 0 < k) before some) in (
+                  omega (arith, loan.out, fewer-loans s, one_if_other s slot away),
+                  sym (mark-here f.books x.book b at s) ∙ loan.unwritten,
+                )
+          ]) its-lists
 
       -- the slot of a blocked delivery is another
       lends : LendsBlocked x → LendsBlocked (with_loan_out slot x)
-      lends has d e = omega (arith, has d e, fewer-loans d.slot, one_if_other d.slot slot (blocked-other f sound i x here slot n l lies d e))
+      lends has d e = omega (
+        arith,
+        has d e,
+        fewer-loans d.slot,
+        one_if_other d.slot slot (blocked-other f sound i x here slot n l lies d e),
+      )
 
   -- ---- the whole
 
@@ -165,19 +194,30 @@ module _ {T U : Type 0} (f : Fields T U) (sound : IsDomain f) (i : ℕ) (x : Pub
   keeps_entries : KeepsEntries (kept_of returned)
   keeps_entries q m is = elim (cases_eq m n) [
     | inl same ↦
-        let there = held-message-slot returned returned-parts.counted returned-parts.publisher_ids returned-parts.plain q m is in
-        absurd (unnumbered f parts x.book b at slot n l lies alone there.0 there.1 (subst (HasNumber returned.books there.0 there.1) same there.2))
+        let there = held-message-slot returned returned-parts.counted returned-parts.publisher_ids returned-parts.plain
+        q m is in
+        absurd (unnumbered f parts x.book b at slot n l lies alone there.0 there.1
+        (subst (HasNumber returned.books there.0 there.1) same there.2))
     | inr away ↦
-        let old = sound.entries q m (held-before was (loan_discarded was n l) q m (λ r. refl) standing (subst (λ (s : State T U). IsHeldMessage s q m) returned-is is)) in
-        (old.0, ap (λ (k : Kept T U ⊥ ⊥). entries_of k m) same-kept ∙ ap (option_and_then entry_in) (others-same f parts x.book b at slot n l lies alone m away) ∙ old.1, old.2)
+        let old = sound.entries q m (held-before was (loan_discarded was n l) q m (λ r. refl) standing
+        (subst (λ (s : State T U). IsHeldMessage s q m) returned-is is)) in (
+          old.0,
+          ap (λ (k : Kept T U ⊥ ⊥). entries_of k m) same-kept
+              ∙ ap (option_and_then entry_in) (others-same f parts x.book b at slot n l lies alone m away) ∙ old.1,
+          old.2,
+        )
   ]
     where
-      standing : (y : Publisher) → (loan_discarded was n l).publishers q ≡ Some y → (z : Publisher) × (was.publishers q ≡ Some z) × KeepsHeld z y
+      standing : (y : Publisher) → (loan_discarded was n l).publishers q ≡ Some y
+          → (z : Publisher) × (was.publishers q ≡ Some z) × KeepsHeld z y
       standing y e =
-          let stood = ap was.publishers (loan-of f sound i x here slot n l lies) ∙ publisher-stands f sound.parts i x here in
+          let stood =
+          ap was.publishers (loan-of f sound i x here slot n l lies) ∙ publisher-stands f sound.parts i x here in
           let port : Publisher = (publisher_of f.books f.connections x).port in
-          found_put was.publishers l.publisher (without_loan port) (λ j z. (v : Publisher) × (was.publishers j ≡ Some v) × KeepsHeld v z) q y
-          (sym (ap (λ (o : Option Publisher). put_at was.publishers l.publisher (option_map without_loan o) q) stood) ∙ e)
+          found_put was.publishers l.publisher (without_loan port)
+          (λ j z. (v : Publisher) × (was.publishers j ≡ Some v) × KeepsHeld v z) q y
+          (sym (ap (λ (o : Option Publisher). put_at was.publishers l.publisher (option_map without_loan o) q) stood)
+          ∙ e)
           (λ _. (port, stood, record { history = refl; blocked = refl }))
           (λ _ there. (y, there, record { history = refl; blocked = refl }))
 
@@ -185,13 +225,17 @@ module _ {T U : Type 0} (f : Fields T U) (sound : IsDomain f) (i : ℕ) (x : Pub
   kept : KeepsBooks f.next_port returned.publishers returned.books
   kept =
       changed-kept_books f i x (with_loan_out slot x) here refl returned.books refl
-      (kept-own f.next_port f.publishers f.books x.book b given at refl (subst (IsOwned f.publishers x.book) (sym mine) (book-owned f parts i x here)) sound.kept_books)
+      (kept-own f.next_port f.publishers f.books x.book b given at refl
+      (subst (IsOwned f.publishers x.book) (sym mine) (book-owned f parts i x here)) sound.kept_books)
 
   -- the loan is given back
   pub returned-reaches : Reaches f returned (loan_discarded was n l)
   returned-reaches = record {
-    agrees = whole_of returned returned-parts (left-lone f parts x.book b at slot n l lies alone sound.lone) kept (subst IsWellFormed (sym returned-is) (loan_discarded_keeps was sound.well_formed n l (loan-is f sound i x here slot n l lies))) keeps_entries;
+    agrees = whole_of returned returned-parts (left-lone f parts x.book b at slot n l lies alone sound.lone) kept
+        (subst IsWellFormed (sym returned-is)
+        (loan_discarded_keeps was sound.well_formed n l (loan-is f sound i x here slot n l lies))) keeps_entries;
     state = returned-is;
-    entries = λ m entry kept. left-entries f parts x.book b at slot n l lies alone m entry (sym (ap (λ (k : Kept T U ⊥ ⊥). entries_of k m) same-kept) ∙ kept);
+    entries = λ m entry kept. left-entries f parts x.book b at slot n l lies alone m entry
+        (sym (ap (λ (k : Kept T U ⊥ ⊥). entries_of k m) same-kept) ∙ kept);
     places = left-places f parts x.book b at slot n l lies alone;
   }

@@ -1,5 +1,6 @@
 -- There is room for one expired key more, where one of a subscriber's connections isn't expired.
-use Rattle.std.proofs.Common.{◌≡◌, ◌<◌, ◌≤◌, ℕ, zero, suc, List, [], ◌∷◌, length, map, true, false, get_or, slice_set, refl, ap, sym, ◌∙◌, inl, inr, ◌⊎◌, arith}
+use Rattle.std.proofs.Common.{◌≡◌, ◌<◌, ◌≤◌, ℕ, zero, suc, List, [], ◌∷◌, length, map, true, false, get_or, slice_set}
+use Rattle.std.proofs.Common.{refl, ap, sym, ◌∙◌, inl, inr, ◌⊎◌, arith}
 use Rattle.std.proofs.lemmas.Bool.{eq-eqb}
 use Rattle.std.proofs.lemmas.List.{get_or-set_other}
 use Rattle.std.specs.List.{sum_by}
@@ -31,47 +32,58 @@ set-nothing (x ∷ xs) zero = refl
 set-nothing (x ∷ xs) (suc k) = set-nothing xs k
 
 -- a subscriber has at least as many connections as different keys of them
-count-keys : (slots : List (Option Link)) (q : ℕ) (keys : List ℕ) → IsOnce keys → ((k : ℕ) → contains keys k ≡ true → one_if_receivers q (get_or slots k None) ≡ 1)
+count-keys : (slots : List (Option Link)) (q : ℕ) (keys : List ℕ) → IsOnce keys
+    → ((k : ℕ) → contains keys k ≡ true → one_if_receivers q (get_or slots k None) ≡ 1)
     → length keys ≤ sum_by (one_if_receivers q) slots
 count-keys slots q [] once each = omega arith
 count-keys slots q (k ∷ keys) once each =
-    let fewer = sum-updated (one_if_receivers q) refl slots (slice_set slots k None) k (λ i away. get_or-set_other slots k i None None away) in
+    let fewer = sum-updated (one_if_receivers q) refl slots (slice_set slots k None) k
+    (λ i away. get_or-set_other slots k i None None away) in
     let rest = count-keys (slice_set slots k None) q keys once.1 (λ i has.
-    ap (one_if_receivers q) (get_or-set_other slots k i None None (λ same. let no : true ≡ false = sym has ∙ ap (contains keys) same ∙ once.0 in absurd cc))
+    ap (one_if_receivers q) (get_or-set_other slots k i None None
+    (λ same. let no : true ≡ false = sym has ∙ ap (contains keys) same ∙ once.0 in absurd cc))
     ∙ each i (contains_later k i keys has)) in
     omega (arith, fewer, rest, each k (contains_first k keys), ap (one_if_receivers q) (set-nothing slots k))
 
 -- keys that lead to different publishers are different
-once-keys : (connections : Slab Link) (keys : List ℕ) → ((k : ℕ) → contains keys k ≡ true → (c : Link) × (get connections k ≡ Some c))
+once-keys : (connections : Slab Link) (keys : List ℕ)
+    → ((k : ℕ) → contains keys k ≡ true → (c : Link) × (get connections k ≡ Some c))
     → IsOnce (occupants (receiver_ends connections (map Some keys))) → IsOnce keys
 once-keys connections [] each once = tt
 once-keys connections (k ∷ keys) each once =
     let c = each k (contains_first k keys) in
-    let leads : publisher_of_key connections (Some k) ≡ Some c.0.home.publisher = ap (option_map (λ (d : Link). d.home.publisher)) c.1 in
+    let leads : publisher_of_key connections (Some k) ≡ Some c.0.home.publisher =
+    ap (option_map (λ (d : Link). d.home.publisher)) c.1 in
     let both : IsOnce (c.0.home.publisher ∷ occupants (receiver_ends connections (map Some keys))) = rw leads at once in (
-      false_from (contains keys k) (λ has. let no : true ≡ false = sym (leads-among connections keys k c.0 has c.1) ∙ both.0 in absurd cc),
+      false_from (contains keys k)
+          (λ has. let no : true ≡ false = sym (leads-among connections keys k c.0 has c.1) ∙ both.0 in absurd cc),
       once-keys connections keys (λ i has. each i (contains_later k i keys has)) both.1,
     )
 
-module _ {T U : Type 0} (f : Fields T U) (sound : IsDomain f) (j i : ℕ) (y : SubscriberFields) (key : ℕ) (c : Link) (end : HasDepartedEnd f j i y key c) where
+module _ {T U : Type 0} (f : Fields T U) (sound : IsDomain f) (j i : ℕ) (y : SubscriberFields) (key : ℕ) (c : Link)
+    (end : HasDepartedEnd f j i y key c) where
   abbrev most : ℕ
   most = (f.config).subscriber_max_borrowed_samples
 
   -- an expired key has a connection of the subscriber
-  pub expired-link : (k : ℕ) → contains y.expired k ≡ true → (d : Link) × (get f.connections k ≡ Some d) × IsReceivers y.id most d
+  pub expired-link : (k : ℕ) → contains y.expired k ≡ true
+      → (d : Link) × (get f.connections k ≡ Some d) × IsReceivers y.id most d
   expired-link k has =
       let there = among y.expired k has in
-      some_is (IsReceivers y.id most) (get f.connections k) ((sound.parts.linked.expired j y end.stands).at there.0 k there.1)
+      some_is (IsReceivers y.id most) (get f.connections k)
+      ((sound.parts.linked.expired j y end.stands).at there.0 k there.1)
 
   once : IsOnce (key ∷ y.expired)
   once = (
     unexpired f sound j i y key c end,
-    once-keys f.connections y.expired (λ k has. let d = expired-link k has in (d.0, d.1)) (sound.well_formed.subscribers y.id _ (present f sound j y end.stands)).expired_once,
+    once-keys f.connections y.expired (λ k has. let d = expired-link k has in (d.0, d.1))
+        (sound.well_formed.subscribers y.id _ (present f sound j y end.stands)).expired_once,
   )
 
   one-each : (k : ℕ) → contains (key ∷ y.expired) k ≡ true → one_if_receivers y.id (get f.connections k) ≡ 1
   one-each k has = by (contains_in_cons key k y.expired has) where
-    one : (n : ℕ) (d : Link) → get f.connections n ≡ Some d → d.home.subscriber ≡ y.id → one_if_receivers y.id (get f.connections n) ≡ 1
+    one : (n : ℕ) (d : Link) → get f.connections n ≡ Some d → d.home.subscriber ≡ y.id
+        → one_if_receivers y.id (get f.connections n) ≡ 1
     one n d at its = ap (one_if_receivers y.id) at ∙ (let same = eq-eqb d.home.subscriber y.id its in rw same refl)
 
     by : (key ≡ k) ⊎ (contains y.expired k ≡ true) → one_if_receivers y.id (get f.connections k) ≡ 1

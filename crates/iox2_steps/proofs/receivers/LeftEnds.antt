@@ -1,5 +1,6 @@
 -- A subscriber's ends to departed publishers leave their places: each expires, or goes with nothing in it.
-use Rattle.std.proofs.Common.{◌≡◌, ◌≢◌, ℕ, List, [], ◌∷◌, ◌++◌, Bool, true, false, get_or, slice_set, refl, ap, sym, subst, ◌∙◌, inl, inr}
+use Rattle.std.proofs.Common.{◌≡◌, ◌≢◌, ℕ, List, [], ◌∷◌, ◌++◌, Bool, true, false, get_or, slice_set, refl, ap, sym}
+use Rattle.std.proofs.Common.{subst, ◌∙◌, inl, inr}
 use Rattle.std.proofs.lemmas.Bool.{cases_eq, ne_eqb}
 use Rattle.std.proofs.lemmas.List.Elements.{Contains-push, Contains-append_left}
 use Rattle.std.specs.Prelude.{Contains}
@@ -10,7 +11,8 @@ use Rattle.iox2_connections.specs.Link.{Link}
 use Rattle.iox2_machine.specs.machine.Numbers.{contains, without}
 use Rattle.iox2_machine.specs.machine.Places.{set_place}
 use Rattle.iox2_connections.proofs.ListedNumbers.{contains-from}
-use Rattle.iox2_laws.proofs.NumberLemmas.{contains_in_append, contains_one, contains_in_without, contains-without_same, contains-without_other}
+use Rattle.iox2_laws.proofs.NumberLemmas.{contains_in_append, contains_one, contains_in_without, contains-without_same}
+use Rattle.iox2_laws.proofs.NumberLemmas.{contains-without_other}
 use Rattle.iox2_domain.specs.Ports.{SubscriberFields}
 use Rattle.iox2_domain.specs.Invariant.{HasParts, SenderHas, StandsNowhere}
 use Rattle.iox2_domain.specs.Fields.{Fields}
@@ -26,14 +28,18 @@ pub record IsDeparted {T U : Type 0} (f : Fields T U) (y : SubscriberFields) (c 
   pub publisher : StandsNowhere f.publishers c.home.publisher
 
 -- The subscriber y may be left with these keys and these expired ones, among these connections.
-abbrev pub LeavesReceiver : {T U : Type 0} → Fields T U → SubscriberFields → (keys : List (Option ℕ)) → (expired : List ℕ) → (connections : Slab Link) → Type 0
+abbrev pub LeavesReceiver : {T U : Type 0} → Fields T U → SubscriberFields → (keys : List (Option ℕ))
+    → (expired : List ℕ) → (connections : Slab Link) → Type 0
 LeavesReceiver f y keys expired connections = Forgetful f y (record y { keys = keys; expired = expired }) connections
 
-module _ {T U : Type 0} (f : Fields T U) (parts : HasParts f) (j : ℕ) (y : SubscriberFields) (at : get_or f.subscribers j None ≡ Some y) where
+module _ {T U : Type 0} (f : Fields T U) (parts : HasParts f) (j : ℕ) (y : SubscriberFields)
+    (at : get_or f.subscribers j None ≡ Some y) where
   -- a key that is left at its place was there, and not at the place that is cleared
-  cleared : (i place key : ℕ) → get_or (set_place y.keys i None) place None ≡ Some key → (place ≢ i) × (get_or y.keys place None ≡ Some key)
+  cleared : (i place key : ℕ) → get_or (set_place y.keys i None) place None ≡ Some key
+      → (place ≢ i) × (get_or y.keys place None ≡ Some key)
   cleared i place key has = elim (cases_eq place i) [
-    | inl here ↦ absurd (let no : None ≡ Some key = sym (set_place-here y.keys i None) ∙ ap (λ (n : ℕ). get_or (set_place y.keys i None) n None) (sym here) ∙ has in cc)
+    | inl here ↦ absurd (let no : None ≡ Some key = sym (set_place-here y.keys i None)
+        ∙ ap (λ (n : ℕ). get_or (set_place y.keys i None) n None) (sym here) ∙ has in cc)
     | inr away ↦ (away, sym (set_place-others y.keys i None place away) ∙ has)
   ]
 
@@ -47,15 +53,17 @@ module _ {T U : Type 0} (f : Fields T U) (parts : HasParts f) (j : ℕ) (y : Sub
   }
 
   -- the end at a place expires
-  pub end-expires : (i key : ℕ) → get_or y.keys i None ≡ Some key → LeavesReceiver f y (set_place y.keys i None) (y.expired ++ key ∷ []) f.connections
+  pub end-expires : (i key : ℕ) → get_or y.keys i None ≡ Some key
+      → LeavesReceiver f y (set_place y.keys i None) (y.expired ++ key ∷ []) f.connections
   end-expires i key has = record {
     keys = record {
       fields = refl;
       keys = λ place k there. (cleared i place k there).1;
-      expired = λ k among_them. elim (contains_in_append y.expired (key ∷ []) k (contains-from (y.expired ++ key ∷ []) k among_them)) [
-        | inl before ↦ inl (contained y.expired k before)
-        | inr new ↦ inr (i, has ∙ ap Some (contains_one key k new))
-      ];
+      expired = λ k among_them.
+          elim (contains_in_append y.expired (key ∷ []) k (contains-from (y.expired ++ key ∷ []) k among_them)) [
+            | inl before ↦ inl (contained y.expired k before)
+            | inr new ↦ inr (i, has ∙ ap Some (contains_one key k new))
+          ];
     };
     fewer = λ k c there. there;
     gone = λ k c there none. absurd (let no : None ≡ Some c = sym none ∙ there in cc);
@@ -74,7 +82,8 @@ module _ {T U : Type 0} (f : Fields T U) (parts : HasParts f) (j : ℕ) (y : Sub
   -- ---- a connection of a departed publisher, in which no slot stands, goes
 
   module _ (key : ℕ) (c : Link) (stands_there : get f.connections key ≡ Some c) (departed : IsDeparted f y c)
-      (waiting : c.waiting ≡ []) (borrowed : c.borrowed ≡ []) (returned : c.returned ≡ []) (others : c.others ≡ []) (new : Slab Link) (goes : Updates f.connections new key None) where
+      (waiting : c.waiting ≡ []) (borrowed : c.borrowed ≡ []) (returned : c.returned ≡ []) (others : c.others ≡ [])
+      (new : Slab Link) (goes : Updates f.connections new key None) where
     empty : IsEmptyLink c
     empty = record { waiting = waiting; borrowed = borrowed; returned = returned; others = others }
 
@@ -86,57 +95,76 @@ module _ {T U : Type 0} (f : Fields T U) (parts : HasParts f) (j : ℕ) (y : Sub
     another k d there here = let no : None ≡ Some d = sym goes.changed ∙ ap (get new) (sym here) ∙ there in absurd cc
 
     -- it is the one that is gone, if the subscriber then doesn't know it
-    gone : (y' : SubscriberFields) → (Knows y' key c → ⊥) → (k : ℕ) (d : Link) → get f.connections k ≡ Some d → get new k ≡ None
+    gone : (y' : SubscriberFields) → (Knows y' key c → ⊥) → (k : ℕ) (d : Link) → get f.connections k ≡ Some d
+        → get new k ≡ None
         → (d.home.subscriber ≡ y.id) × (SenderHas f.publishers k d → ⊥) × (Knows y' k d → ⊥) × IsEmptyLink d
     gone y' unknown k d there none = elim (cases_eq k key) [
       | inl here ↦
           let both : Some d ≡ Some c = sym there ∙ ap (get f.connections) here ∙ stands_there in
           let is : d ≡ c = cc in
-          rw (here, is) (departed.subscriber, λ has. departed.publisher c.home.publisher_place has.publisher has.stands has.is_its, unknown, empty)
+          rw (here, is) (
+            departed.subscriber,
+            λ has. departed.publisher c.home.publisher_place has.publisher has.stands has.is_its,
+            unknown,
+            empty,
+          )
       | inr away ↦ absurd (let no : None ≡ Some d = sym none ∙ goes.others k away ∙ there in cc)
     ]
 
     -- it was the end at a place
-    pub end-goes : (i : ℕ) → get_or y.keys i None ≡ Some key → contains y.expired key ≡ false → LeavesReceiver f y (set_place y.keys i None) y.expired new
+    pub end-goes : (i : ℕ) → get_or y.keys i None ≡ Some key → contains y.expired key ≡ false
+        → LeavesReceiver f y (set_place y.keys i None) y.expired new
     end-goes i has unexpired = record {
-      keys = record { fields = refl; keys = λ place k there. (cleared i place k there).1; expired = λ k among_them. inl among_them };
+      keys = record {
+        fields = refl;
+        keys = λ place k there. (cleared i place k there).1;
+        expired = λ k among_them. inl among_them;
+      };
       fewer = loses.fewer;
       gone = gone (record y { keys = set_place y.keys i None }) unknown;
       knows = λ k d there before. elim before [
         | inl here ↦ elim (cases_eq d.home.publisher_place i) [
-          | inl same ↦ absurd (another k d there (let both : Some k ≡ Some key = sym here ∙ ap (λ (n : ℕ). get_or y.keys n None) same ∙ has in cc))
+          | inl same ↦ absurd (another k d there
+              (let both : Some k ≡ Some key = sym here ∙ ap (λ (n : ℕ). get_or y.keys n None) same ∙ has in cc))
           | inr away ↦ inl (set_place-others y.keys i None d.home.publisher_place away ∙ here)
         ]
         | inr expired ↦ inr expired
       ];
     } where
       unknown : Knows (record y { keys = set_place y.keys i None }) key c → ⊥
-      unknown (inl placed) = (cleared i c.home.publisher_place key placed).0 (parts.linked.receiver_places j i key y c at has stands_there)
-      unknown (inr among_them) = let no : true ≡ false = sym (contains-from y.expired key among_them) ∙ unexpired in absurd cc
+      unknown (inl placed) =
+          (cleared i c.home.publisher_place key placed).0 (parts.linked.receiver_places j i key y c at has stands_there)
+      unknown (inr among_them) = let no : true ≡ false = sym (contains-from y.expired key among_them) ∙ unexpired in
+          absurd cc
 
     -- it was among those that expired
-    pub expired-goes : ((place : ℕ) → get_or y.keys place None ≢ Some key) → LeavesReceiver f y y.keys (without key y.expired) new
+    pub expired-goes : ((place : ℕ) → get_or y.keys place None ≢ Some key)
+        → LeavesReceiver f y y.keys (without key y.expired) new
     expired-goes nowhere = record {
       keys = record {
         fields = refl;
         keys = λ place k there. there;
-        expired = λ k among_them. inl (contained y.expired k (contains_in_without key k y.expired (contains-from (without key y.expired) k among_them)));
+        expired = λ k among_them. inl (contained y.expired k
+            (contains_in_without key k y.expired (contains-from (without key y.expired) k among_them)));
       };
       fewer = loses.fewer;
       gone = gone (record y { expired = without key y.expired }) unknown;
       knows = λ k d there before. elim before [
         | inl here ↦ inl here
         | inr expired ↦ inr (contained (without key y.expired) k
-            (contains-without_other key k y.expired (ne_eqb k key (another k d there)) (contains-from y.expired k expired)))
+            (contains-without_other key k y.expired (ne_eqb k key (another k d there))
+            (contains-from y.expired k expired)))
       ];
     } where
       unknown : Knows (record y { expired = without key y.expired }) key c → ⊥
       unknown (inl placed) = nowhere c.home.publisher_place placed
-      unknown (inr among_them) = let no : true ≡ false = sym (contains-from (without key y.expired) key among_them) ∙ contains-without_same key y.expired in absurd cc
+      unknown (inr among_them) = let no : true ≡ false = sym (contains-from (without key y.expired) key among_them)
+          ∙ contains-without_same key y.expired in absurd cc
 
   -- ---- the fields
 
-  module _ (keys : List (Option ℕ)) (expired : List ℕ) (is_due : Bool) (connections : Slab Link) (fits : LeavesReceiver f y keys expired connections) where
+  module _ (keys : List (Option ℕ)) (expired : List ℕ) (is_due : Bool) (connections : Slab Link)
+      (fits : LeavesReceiver f y keys expired connections) where
     -- the subscriber with these keys and these expired ones, due or not
     abbrev pub left_subscriber : SubscriberFields
     left_subscriber = record y { keys = keys; expired = expired; is_due = is_due }
@@ -155,4 +183,5 @@ module _ {T U : Type 0} (f : Fields T U) (parts : HasParts f) (j : ℕ) (y : Sub
 
     -- the fields agree with one another, still
     pub left-parts : HasParts left_fields
-    left-parts = forgotten-parts f parts f.publishers (slice_set f.subscribers j (Some left_subscriber)) connections leaves
+    left-parts =
+        forgotten-parts f parts f.publishers (slice_set f.subscribers j (Some left_subscriber)) connections leaves

@@ -25,8 +25,10 @@ without-left key xs k has =
     let was = kept-expired key xs there.0 k there.1 in
     (was.0, listed-has xs was.1 k was.2)
 
-module _ {T U : Type 0} (f : Fields T U) (parts : HasParts f) (j : ℕ) (y : SubscriberFields) (at_y : get_or f.subscribers j None ≡ Some y)
-    (key : ℕ) (c : Link) (at_c : get f.connections key ≡ Some c) (mine : c.home.subscriber ≡ y.id) (empty : IsEmptyLink c)
+module _ {T U : Type 0} (f : Fields T U) (parts : HasParts f) (j : ℕ) (y : SubscriberFields)
+    (at_y : get_or f.subscribers j None ≡ Some y)
+    (key : ℕ) (c : Link) (at_c : get f.connections key ≡ Some c) (mine : c.home.subscriber ≡ y.id)
+    (empty : IsEmptyLink c)
     (nobody : SenderHas f.publishers key c → ⊥) (new : Slab Link) (goes : Updates f.connections new key None) where
   -- the fields without the connection
   abbrev pub forgetting : Fields T U
@@ -49,7 +51,8 @@ module _ {T U : Type 0} (f : Fields T U) (parts : HasParts f) (j : ℕ) (y : Sub
   knows k d away (inr among) = inr (keeps-expired key y.expired k away among)
 
   gone : (k : ℕ) (d : Link) → get f.connections k ≡ Some d → get new k ≡ None
-      → (d.home.subscriber ≡ y.id) × (SenderHas f.publishers k d → ⊥) × (Knows (key_forgotten key y) k d → ⊥) × IsEmptyLink d
+      → (d.home.subscriber ≡ y.id) × (SenderHas f.publishers k d → ⊥) × (Knows (key_forgotten key y) k d → ⊥)
+      × IsEmptyLink d
   gone k d at_d none = elim (cases_eq k key) [
     | inl here ↦
         let one : Some d ≡ Some c = sym at_d ∙ ap (get f.connections) here ∙ at_c in
@@ -72,14 +75,26 @@ module _ {T U : Type 0} (f : Fields T U) (parts : HasParts f) (j : ℕ) (y : Sub
 
   -- the machine sees that the subscriber has these keys no more
   pub forgetting-is : state_of (kept_of forgetting) ≡ with_channels_of forgetting (record (state_of (kept_of f)) {
-    subscribers = put_at (state_of (kept_of f)).subscribers y.id (Some ((subscriber_of f.books f.connections (key_forgotten key y)).port));
+    subscribers = put_at (state_of (kept_of f)).subscribers y.id
+        (Some ((subscriber_of f.books f.connections (key_forgotten key y)).port));
   })
   forgetting-is = forgets-is f parts j y at_y (key_forgotten key y) refl new forgetting-it
 
   pub forgetting-midway : (old : Fields T U) (s : State T U) (book : ℕ) → IsMidway old f s book
-      → IsMidway old forgetting (record s { subscribers = put_at s.subscribers y.id (Some ((subscriber_of f.books f.connections (key_forgotten key y)).port)) }) book
+      → IsMidway old forgetting
+      (record s {
+        subscribers = put_at s.subscribers y.id
+            (Some ((subscriber_of f.books f.connections (key_forgotten key y)).port));
+      }) book
   forgetting-midway old s book midway =
       forgotten-midway f parts (slice_set f.subscribers j (Some (key_forgotten key y))) new forgetting-it old s
-      (record s { subscribers = put_at s.subscribers y.id (Some ((subscriber_of f.books f.connections (key_forgotten key y)).port)) }) book
-      (forgetting-is ∙ ap (λ (t : State T U). with_channels_of forgetting (record t { subscribers = put_at t.subscribers y.id (Some ((subscriber_of f.books f.connections (key_forgotten key y)).port)) })) midway.state)
+      (record s {
+        subscribers = put_at s.subscribers y.id
+            (Some ((subscriber_of f.books f.connections (key_forgotten key y)).port));
+      }) book
+      (forgetting-is ∙ ap (λ (t : State T U). with_channels_of forgetting
+      (record t {
+        subscribers = put_at t.subscribers y.id
+            (Some ((subscriber_of f.books f.connections (key_forgotten key y)).port));
+      })) midway.state)
       midway

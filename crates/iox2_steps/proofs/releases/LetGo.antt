@@ -24,9 +24,11 @@ use Rattle.iox2_domain.proofs.lemmas.slots.BookChanges.{KeepsSlots, book-here, b
 use Rattle.iox2_domain.proofs.lemmas.slots.LoneLoans.{lone-counters}
 use Rattle.iox2_domain.proofs.lemmas.slots.RecountedLoans as counts
 
-module _ {T U : Type 0} (f : Fields T U) (sound : IsDomain f) (key slot : ℕ) (c : Link) (at_c : get f.connections key ≡ Some c)
+module _ {T U : Type 0} (f : Fields T U) (sound : IsDomain f) (key slot : ℕ) (c : Link)
+    (at_c : get f.connections key ≡ Some c)
     (b : Book) (at_b : get f.books c.home.book ≡ Some b) (its : b.publisher ≡ c.home.publisher)
-    (gone : look_up (is_publisher c.home.publisher) f.publishers ≡ None) (borrowed : Contains c.borrowed slot) (in_use : 0 < holders_at b slot)
+    (gone : look_up (is_publisher c.home.publisher) f.publishers ≡ None) (borrowed : Contains c.borrowed slot)
+    (in_use : 0 < holders_at b slot)
     (new : Slab Link) (r : Recounts c.home.publisher b.holders f.connections (one_holder_less slot b.holders) new) where
   abbrev p : ℕ
   p = c.home.publisher
@@ -50,7 +52,8 @@ module _ {T U : Type 0} (f : Fields T U) (sound : IsDomain f) (key slot : ℕ) (
   let_go-consistent = counts.parts-recounted f sound p c.home.book b at_b its (one_holder_less slot b.holders) new r
 
   -- no connection's book is kept for nobody but this one
-  kept-after : KeepsBooks f.next_port f.publishers f.books → KeepsBooksBut f.next_port f.publishers let_go.books c.home.book
+  kept-after : KeepsBooks f.next_port f.publishers f.books
+      → KeepsBooksBut f.next_port f.publishers let_go.books c.home.book
   kept-after kept = record {
     own = λ d at_d.
         let one : Some after ≡ Some d = sym (book-here f c.home.book b after at_b keeps) ∙ at_d in
@@ -62,22 +65,34 @@ module _ {T U : Type 0} (f : Fields T U) (sound : IsDomain f) (key slot : ℕ) (
     others = λ k d away at_d. kept.at k d (sym (book-others f c.home.book b after at_b keeps k away) ∙ at_d);
   }
 
-  module _ (releases : ReleasesSlot f.connections key slot new) (held : is_borrowed (number_in_slot f.books p slot) ((state_of (kept_of f)).mailboxes p c.home.subscriber) ≡ true) where
+  module _ (releases : ReleasesSlot f.connections key slot new)
+      (held : is_borrowed (number_in_slot f.books p slot)
+      ((state_of (kept_of f)).mailboxes p c.home.subscriber) ≡ true) where
     -- the machine's subscriber has borrowed the message no more
     pub let_go-is : state_of (kept_of let_go) ≡ unborrowed_here f sound key slot c at_c new releases held
-    let_go-is = counts.recounted-is f sound p c.home.book b at_b its (one_holder_less slot b.holders) new r ∙ unborrows f sound key slot c at_c new releases held
+    let_go-is = counts.recounted-is f sound p c.home.book b at_b its (one_holder_less slot b.holders) new r
+        ∙ unborrows f sound key slot c at_c new releases held
 
-    pub let_go-midway : KeepsBooks f.next_port f.publishers f.books → IsMidway f let_go (unborrowed_here f sound key slot c at_c new releases held) c.home.book
+    pub let_go-midway : KeepsBooks f.next_port f.publishers f.books
+        → IsMidway f let_go (unborrowed_here f sound key slot c at_c new releases held) c.home.book
     let_go-midway kept = record {
       consistent = let_go-consistent;
-      lone = lone-counters f.books c.home.book b (one_holder_less slot b.holders) at_b sound.lone (λ s. omega (arith, fewer s));
+      lone = lone-counters f.books c.home.book b (one_holder_less slot b.holders) at_b sound.lone
+          (λ s. omega (arith, fewer s));
       kept_books = kept-after kept;
       state = but-channels let_go (unborrowed_here f sound key slot c at_c new releases held) let_go-is;
       channels = links-same f.connections new r.homes;
       entries = counts.recounted-entries f sound p c.home.book b at_b its (one_holder_less slot b.holders) new r;
       places = counts.recounted-places f sound p c.home.book b at_b its (one_holder_less slot b.holders) new r;
       complete = λ q n is_held.
-          let old = sound.entries q n (held-within (state_of (kept_of f)) (mailboxes_of (number_in_slot f.books) new) q n (λ k. numbers-were f sound key slot c at_c new releases held q k n)
-          (subst (λ (s : State T U). IsHeldMessage s q n) (let_go-is ∙ sym (unborrows f sound key slot c at_c new releases held)) is_held)) in
-          (old.0, counts.recounted-keeps f sound p c.home.book b at_b its (one_holder_less slot b.holders) new r q n old.0 is_held old.1, old.2);
+          let old =
+          sound.entries q n (held-within (state_of (kept_of f)) (mailboxes_of (number_in_slot f.books) new) q n
+          (λ k. numbers-were f sound key slot c at_c new releases held q k n)
+          (subst (λ (s : State T U). IsHeldMessage s q n)
+          (let_go-is ∙ sym (unborrows f sound key slot c at_c new releases held)) is_held)) in (
+            old.0,
+            counts.recounted-keeps f sound p c.home.book b at_b its
+                (one_holder_less slot b.holders) new r q n old.0 is_held old.1,
+            old.2,
+          );
     }

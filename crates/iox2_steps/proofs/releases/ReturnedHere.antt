@@ -18,7 +18,8 @@ use Rattle.iox2_domain.specs.declared.sample_slots.SampleAt.{SampleAt}
 use Rattle.iox2_domain.specs.declared.sample_slots.SampleSlot.{SampleSlot}
 use Rattle.iox2_steps.proofs.releases.BookFreed.{attains}
 use Rattle.iox2_steps.proofs.releases.GivenBack.{borrowed-at-home, gives-back, pruned-boxes}
-use Rattle.iox2_steps.proofs.releases.HandedBack.{HandsBack, IsBorrowedAt, borrowed-there, hands-back-present, once-there}
+use Rattle.iox2_steps.proofs.releases.HandedBack.{HandsBack, IsBorrowedAt, borrowed-there, hands-back-present}
+use Rattle.iox2_steps.proofs.releases.HandedBack.{once-there}
 use Rattle.iox2_steps.proofs.releases.Leaving.{stays-open}
 use Rattle.iox2_domain.proofs.lemmas.samples.BorrowedNumbers.{lies-borrowed}
 
@@ -42,9 +43,11 @@ module _ {T U : Type 0} (f : Fields T U) (sound : IsDomain f) (sample : SampleAt
 
 module _ {T U : Type 0} (f : Fields T U) (sample : SampleAt) (lies : LiesAtHint f sample) where
   -- its mark is read
-  pub is-returnable : (v : Fields T U) → v ≡ f → (d : Link) → get v.connections sample.connection ≡ Some d → d.is_open ≡ true → IsReturnable f sample
+  pub is-returnable : (v : Fields T U) → v ≡ f → (d : Link) → get v.connections sample.connection ≡ Some d
+      → d.is_open ≡ true → IsReturnable f sample
   is-returnable v view d read is_open =
-      let one : Some d ≡ Some lies.connection = sym read ∙ ap (λ (g : Fields T U). get g.connections sample.connection) view ∙ lies.has_connection in
+      let one : Some d ≡ Some lies.connection =
+      sym read ∙ ap (λ (g : Fields T U). get g.connections sample.connection) view ∙ lies.has_connection in
       let same : d ≡ lies.connection = cc in
       record { lies = lies; marked = sym (ap (λ (l : Link). l.is_open) same) ∙ is_open }
 
@@ -53,10 +56,12 @@ module _ {T U : Type 0} (f : Fields T U) (sound : IsDomain f) (sample : SampleAt
   both : IsBetweenOpen f.publishers f.subscribers sample.connection (may.lies).connection
   both = sound.parts.linked.marked sample.connection (may.lies).connection (may.lies).has_connection may.marked
 
-  its-publisher : IsSomeAnd (get_or f.publishers (home f sound sample may.lies).publisher_place None) (λ (x : PublisherFields). x.id ≡ (home f sound sample may.lies).publisher)
+  its-publisher : IsSomeAnd (get_or f.publishers (home f sound sample may.lies).publisher_place None)
+      (λ (x : PublisherFields). x.id ≡ (home f sound sample may.lies).publisher)
   its-publisher = rw both.sender.stands both.sender.is_its
 
-  module _ (new : Slab Link) (midway : HandsBack f (home f sound sample may.lies) sample.slot (record f { connections = new })) where
+  module _ (new : Slab Link)
+      (midway : HandsBack f (home f sound sample may.lies) sample.slot (record f { connections = new })) where
     abbrev mid : Fields T U
     mid = record f { connections = new }
 
@@ -64,27 +69,37 @@ module _ {T U : Type 0} (f : Fields T U) (sound : IsDomain f) (sample : SampleAt
     returns-alone : (p : ℕ) → is_borrowed sample.number ((state_of (kept_of f)).mailboxes p sample.subscriber) ≡ true
         → Reaches f mid (released (state_of (kept_of f)) p sample.subscriber sample.number)
     returns-alone =
-        gives-back f sound sample.subscriber sample.number (at f sound sample may.lies) may.lies (home f sound sample may.lies) refl mid mid mid midway both.receiver.subscriber both.receiver.is_its
-        (stays-open mid midway.consistent (home f sound sample may.lies).subscriber_place both.receiver.subscriber both.receiver.stands
-        (pruned-boxes f sound sample.subscriber sample.number (at f sound sample may.lies) may.lies (home f sound sample may.lies) refl mid midway both.receiver.subscriber both.receiver.is_its) both.receiver.is_open)
-        (λ before s step is well. attains mid (record { at = sound.kept_books.at }) before s (home f sound sample may.lies).book step is well)
+        gives-back f sound sample.subscriber sample.number (at f sound sample may.lies) may.lies
+        (home f sound sample may.lies) refl mid mid mid midway both.receiver.subscriber both.receiver.is_its
+        (stays-open mid midway.consistent
+        (home f sound sample may.lies).subscriber_place both.receiver.subscriber both.receiver.stands
+        (pruned-boxes f sound sample.subscriber sample.number (at f sound sample may.lies) may.lies
+        (home f sound sample may.lies) refl mid midway both.receiver.subscriber both.receiver.is_its)
+        both.receiver.is_open)
+        (λ before s step is well.
+        attains mid (record { at = sound.kept_books.at }) before s (home f sound sample may.lies).book step is well)
 
   abbrev ReturnsInto : (g : Fields T U) → Type 0
   ReturnsInto g = (p : ℕ) → is_borrowed sample.number ((state_of (kept_of f)).mailboxes p sample.subscriber) ≡ true
       → Reaches f g (released (state_of (kept_of f)) p sample.subscriber sample.number)
 
   -- what the code gives back
-  pub returns-here : (v : Fields T U) → v ≡ f → (new : Slab Link) → ReleasesSlot v.connections sample.connection sample.slot new → SameHomes v.connections new
-      → KeepsOtherKeys sample.connection v.connections new → SameStands v.connections new → (p : ℕ) → is_borrowed sample.number ((state_of (kept_of f)).mailboxes p sample.subscriber) ≡ true
+  pub returns-here : (v : Fields T U) → v ≡ f → (new : Slab Link)
+      → ReleasesSlot v.connections sample.connection sample.slot new → SameHomes v.connections new
+      → KeepsOtherKeys sample.connection v.connections new → SameStands v.connections new → (p : ℕ)
+      → is_borrowed sample.number ((state_of (kept_of f)).mailboxes p sample.subscriber) ≡ true
       → Reaches f (record v { connections = new }) (released (state_of (kept_of f)) p sample.subscriber sample.number)
   returns-here v view new releases homes others stay =
-      subst (λ (g : Fields T U). ReleasesSlot g.connections sample.connection sample.slot new → SameHomes g.connections new → KeepsOtherKeys sample.connection g.connections new → SameStands g.connections new
+      subst (λ (g : Fields T U). ReleasesSlot g.connections sample.connection sample.slot new
+      → SameHomes g.connections new → KeepsOtherKeys sample.connection g.connections new → SameStands g.connections new
       → ReturnsInto (record g { connections = new })) (sym view)
       (λ releases_now homes_now others_now stay_now.
-      returns-alone new (hands-back-present f sound sample.connection sample.slot (home f sound sample may.lies) (borrowed-here f sound sample may.lies) new releases_now homes_now others_now stay_now
+      returns-alone new (hands-back-present f sound sample.connection sample.slot (home f sound sample may.lies)
+      (borrowed-here f sound sample may.lies) new releases_now homes_now others_now stay_now
       its-publisher sound.kept_books))
       releases homes others stay
 
   -- the message was borrowed from somebody
-  pub its-lender : is_borrowed sample.number ((state_of (kept_of f)).mailboxes (home f sound sample may.lies).publisher sample.subscriber) ≡ true
+  pub its-lender : is_borrowed sample.number
+      ((state_of (kept_of f)).mailboxes (home f sound sample may.lies).publisher sample.subscriber) ≡ true
   its-lender = lies-borrowed f sound sample.subscriber sample.number (at f sound sample may.lies) may.lies

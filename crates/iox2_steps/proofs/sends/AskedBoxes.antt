@@ -23,18 +23,23 @@ unhandled None e = refl
 unhandled (Some h) e = absurd (let no : true ≡ false = e in cc)
 
 -- and depends on no box
-pub unasked : (e e' : Environment) (p : ℕ) (h : Option (Handler BackpressureAction)) → is_some h ≡ false → AllowsAsMuch e e' p h
+pub unasked : (e e' : Environment) (p : ℕ) (h : Option (Handler BackpressureAction)) → is_some h ≡ false
+    → AllowsAsMuch e e' p h
 unasked e e' p None none = tt
 unasked e e' p (Some h) none = absurd (let no : true ≡ false = none in cc)
 
 -- a publisher that is due for no update asks no box
-pub ready-boxes : {T U F G : Type 0} (allows : F → BackpressureInfo → BackpressureAction → Type 0) (degrades : G → DegradationCause → DegradationInfo → DegradationAction → Type 0) (boxes : List (PortBox F G))
-    (old new : Fields T U) (p n place slot : ℕ) → IsReadyToSend fixed_handlers old new p n place slot → IsReadyToSend (answers_of allows degrades boxes) old new p n place slot
+pub ready-boxes : {T U F G : Type 0} (allows : F → BackpressureInfo → BackpressureAction → Type 0)
+    (degrades : G → DegradationCause → DegradationInfo → DegradationAction → Type 0) (boxes : List (PortBox F G))
+    (old new : Fields T U) (p n place slot : ℕ) → IsReadyToSend fixed_handlers old new p n place slot
+    → IsReadyToSend (answers_of allows degrades boxes) old new p n place slot
 ready-boxes allows degrades boxes old new p n place slot ready = record {
   publisher = ready.publisher;
   stands = ready.stands;
   is_its = ready.is_its;
-  updated = updates-alike fixed_handlers (answers_of allows degrades boxes) old place ready.publisher new None (λ z there. unboxed-updates (answers_of allows degrades boxes) tt (ready.publisher).id z.degradation_handler) ready.updated;
+  updated = updates-alike fixed_handlers (answers_of allows degrades boxes) old place ready.publisher new None
+      (λ z there. unboxed-updates (answers_of allows degrades boxes) tt (ready.publisher).id z.degradation_handler)
+      ready.updated;
   key = ready.key;
   lies = ready.lies;
 }

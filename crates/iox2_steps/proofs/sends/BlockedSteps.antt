@@ -1,5 +1,7 @@
--- A publisher with a blocked delivery takes it up: what the delivery needs is there, and what it comes to is the machine's.
-use Rattle.std.proofs.Common.{◌≡◌, ℕ, ◌+◌, ◌<◌, ◌≤◌, List, Bool, true, false, cond, drop, drop-drop, take, length, get_or, refl, ap, sym, subst, ◌∙◌, arith}
+-- A publisher with a blocked delivery takes it up: what the delivery needs is there, and what it comes to is the
+-- machine's.
+use Rattle.std.proofs.Common.{◌≡◌, ℕ, ◌+◌, ◌<◌, ◌≤◌, List, Bool, true, false, cond, drop, drop-drop, take, length}
+use Rattle.std.proofs.Common.{get_or, refl, ap, sym, subst, ◌∙◌, arith}
 use Rattle.std.proofs.lemmas.List.{length-map, length-take}
 use Rattle.std.proofs.lemmas.Option.{same_Some}
 use Rattle.std.specs.declared.option.Option.{Option}
@@ -40,7 +42,8 @@ use Rattle.iox2_steps.proofs.sends.GoneOn.{goes-on, ConcludesAs}
 use Rattle.iox2_steps.proofs.sends.Reach.{reach-ends}
 use Rattle.iox2_domain.proofs.lemmas.fields.PlacesKept.{places-then}
 
-module _ {T U : Type 0} (f : Fields T U) (sound : IsDomain f) (i : ℕ) (x : PublisherFields) (here : get_or f.publishers i None ≡ Some x)
+module _ {T U : Type 0} (f : Fields T U) (sound : IsDomain f) (i : ℕ) (x : PublisherFields)
+    (here : get_or f.publishers i None ≡ Some x)
     (w : BlockedDelivery) (waits : x.blocked ≡ Some w) where
   abbrev port : Publisher
   port = (publisher_of f.books f.connections x).port
@@ -49,12 +52,19 @@ module _ {T U : Type 0} (f : Fields T U) (sound : IsDomain f) (i : ℕ) (x : Pub
   stands = publisher-stands f sound.parts i x here
 
   well : BlockedIsWellFormed (state_of (kept_of f)) x.id port (waiting_send f x w)
-  well = (sound.well_formed.publishers x.id port stands).blocked (waiting_send f x w) (ap (option_map (blocked_send (number_in_slot f.books x.id) (sender_ends f.connections x.keys))) waits)
+  well = (sound.well_formed.publishers x.id port stands).blocked (waiting_send f x w)
+      (ap (option_map (blocked_send (number_in_slot f.books x.id) (sender_ends f.connections x.keys))) waits)
 
   -- it waits at one of its publisher's places, and no more receivers took it
   pub waits-within : ((w.progress).place < length x.keys) × ((w.progress).count ≤ (w.progress).place)
-  waits-within =
-      (omega (arith, occupied_within port.ends (w.progress).place well.waits.0 well.waits.1, length-map x.keys (subscriber_of_key f.connections)), well.count_bound)
+  waits-within = (
+    omega (
+      arith,
+      occupied_within port.ends (w.progress).place well.waits.0 well.waits.1,
+      length-map x.keys (subscriber_of_key f.connections),
+    ),
+    well.count_bound,
+  )
 
   -- so it may reach the place
   waits-reached : (w.progress).place < length (within_reach w x.keys)
@@ -64,7 +74,8 @@ module _ {T U : Type 0} (f : Fields T U) (sound : IsDomain f) (i : ℕ) (x : Pub
     by false = waits-within.0
 
   -- it may be tried again
-  pub can-retry : (start : Progress) → start.place ≡ (w.progress).place → start.count ≡ (w.progress).count → CanGoOn x w start
+  pub can-retry : (start : Progress) → start.place ≡ (w.progress).place → start.count ≡ (w.progress).count
+      → CanGoOn x w start
   can-retry start place count = record {
     later = omega (arith, place);
     within = omega (arith, place, waits-reached);
@@ -72,7 +83,8 @@ module _ {T U : Type 0} (f : Fields T U) (sound : IsDomain f) (i : ℕ) (x : Pub
   }
 
   -- or go on behind that place
-  pub can-give_up : (start : Progress) → start.place ≡ (w.progress).place + 1 → start.count ≡ (w.progress).count → CanGoOn x w start
+  pub can-give_up : (start : Progress) → start.place ≡ (w.progress).place + 1 → start.count ≡ (w.progress).count
+      → CanGoOn x w start
   can-give_up start place count = record {
     later = omega (arith, place);
     within = omega (arith, place, waits-reached);
@@ -80,7 +92,8 @@ module _ {T U : Type 0} (f : Fields T U) (sound : IsDomain f) (i : ℕ) (x : Pub
   }
 
   pub waits-once : times w.slot x.loans ≤ 1
-  waits-once = once-times (number_in_slot f.books x.id) w.slot x.loans (sound.well_formed.publishers x.id port stands).loans_once
+  waits-once =
+      once-times (number_in_slot f.books x.id) w.slot x.loans (sound.well_formed.publishers x.id port stands).loans_once
 
   module _ (b : Book) (at : get f.books x.book ≡ Some b) where
     -- its publisher holds the slot itself
@@ -93,20 +106,25 @@ module _ {T U : Type 0} (f : Fields T U) (sound : IsDomain f) (i : ℕ) (x : Pub
     waits-few reclaimed = (held-few f sound i x here b at reclaimed w.slot).0
 
     -- it is in use after the delivery
-    pub waits-in_use : (holders : List ℕ) (new : Slab Link) → Recounts x.id b.holders f.connections holders new → (w.slot < length holders) × (0 < get_or holders w.slot 0)
+    pub waits-in_use : (holders : List ℕ) (new : Slab Link) → Recounts x.id b.holders f.connections holders new
+        → (w.slot < length holders) × (0 < get_or holders w.slot 0)
     waits-in_use holders new r =
-        let some = own-in_use x.id w.slot holders new.slots (own-still x.id w.slot b.holders holders f.connections new waits-own r) in
+        let some = own-in_use x.id w.slot holders new.slots
+        (own-still x.id w.slot b.holders holders f.connections new waits-own r) in
         (in_range holders w.slot some, some)
 
 -- ---- the machine's steps
 
-module _ {T U : Type 0} (environment : Environment) (f0 f1 f2 : Fields T U) (sound0 : IsDomain f0) (reclaimed : Reaches f0 f1 (state_of (kept_of f0))) (i : ℕ) (x : PublisherFields)
-    (before : get_or f0.publishers i None ≡ Some x) (now : get_or f1.publishers i None ≡ Some x) (w : BlockedDelivery) (waits : x.blocked ≡ Some w) where
+module _ {T U : Type 0} (environment : Environment) (f0 f1 f2 : Fields T U) (sound0 : IsDomain f0)
+    (reclaimed : Reaches f0 f1 (state_of (kept_of f0))) (i : ℕ) (x : PublisherFields)
+    (before : get_or f0.publishers i None ≡ Some x) (now : get_or f1.publishers i None ≡ Some x) (w : BlockedDelivery)
+    (waits : x.blocked ≡ Some w) where
   -- what waits is the same before slots are reclaimed
   waiting-same : waiting_send f1 x w ≡ waiting_send f0 x w
   waiting-same =
       let ports : (publisher_of f1.books f1.connections x).port ≡ (publisher_of f0.books f0.connections x).port =
-      same_Some _ _ (sym (publisher-stands f1 reclaimed.agrees.parts i x now) ∙ ap (λ (s : State T U). s.publishers x.id) reclaimed.state ∙ publisher-stands f0 sound0.parts i x before) in
+      same_Some _ _ (sym (publisher-stands f1 reclaimed.agrees.parts i x now)
+      ∙ ap (λ (s : State T U). s.publishers x.id) reclaimed.state ∙ publisher-stands f0 sound0.parts i x before) in
       same_Some _ _
       (sym (ap (option_map (blocked_send (number_in_slot f1.books x.id) (sender_ends f1.connections x.keys))) waits)
       ∙ ap (λ (p : Publisher). p.blocked) ports
@@ -114,39 +132,54 @@ module _ {T U : Type 0} (environment : Environment) (f0 f1 f2 : Fields T U) (sou
 
   module _ (outcome : DeliveryOutcome) where
     -- it was tried again
-    pub retries-as : (elapsed : Duration) → (start : Progress) → start ≡ record w.progress { retries = more_retries (w.progress).retries }
-        → GoesOn environment f1 i x w start elapsed outcome f2 → RetriesAs environment f0 f2 x w elapsed (result_of_delivery outcome)
+    pub retries-as : (elapsed : Duration) → (start : Progress)
+        → start ≡ record w.progress { retries = more_retries (w.progress).retries }
+        → GoesOn environment f1 i x w start elapsed outcome f2
+        → RetriesAs environment f0 f2 x w elapsed (result_of_delivery outcome)
     retries-as elapsed start is goes = record {
       agrees = went.agrees;
-      retries = subst (λ (c : BlockedSend). Retry environment (state_of (kept_of f0)) x.id c elapsed (state_of (kept_of f2)) (result_of_delivery outcome)) waiting-same
-          (subst (λ (s : State T U). Retry environment s x.id (waiting_send f1 x w) elapsed (state_of (kept_of f2)) (result_of_delivery outcome)) reclaimed.state
+      retries = subst (λ (c : BlockedSend). Retry environment (state_of (kept_of f0)) x.id c elapsed
+          (state_of (kept_of f2)) (result_of_delivery outcome)) waiting-same
+          (subst (λ (s : State T U). Retry environment s x.id (waiting_send f1 x w) elapsed (state_of (kept_of f2))
+          (result_of_delivery outcome)) reclaimed.state
           (subst (λ (ends : List (Option ℕ)). DeliverAndConclude environment (state_of (kept_of f1)) x.id
-          (sending (number_in_slot f1.books x.id w.slot) w.channel (more_retries (w.progress).retries) (w.progress).place
+          (sending (number_in_slot f1.books x.id w.slot) w.channel (more_retries (w.progress).retries)
+          (w.progress).place
           (drop (w.progress).place ends) (w.progress).count (w.progress).has_failed) elapsed
           (state_of (kept_of f2)) (result_of_delivery outcome)) (reach-ends f1.connections w x.keys) went.concludes));
       entries = λ m entry e. reclaimed.entries m entry (went.entries m entry e);
       places = places-then reclaimed.places went.places;
     } where
-      went : ConcludesAs environment f1 f2 x (number_in_slot f1.books x.id w.slot) w.channel (within_reach w x.keys) (record w.progress { retries = more_retries (w.progress).retries }) elapsed (result_of_delivery outcome)
-      went = goes-on environment f1 reclaimed.agrees i x now w waits (record w.progress { retries = more_retries (w.progress).retries })
-          (can-retry f1 reclaimed.agrees i x now w waits (record w.progress { retries = more_retries (w.progress).retries }) refl refl) elapsed outcome f2
+      went : ConcludesAs environment f1 f2 x (number_in_slot f1.books x.id w.slot) w.channel (within_reach w x.keys)
+          (record w.progress { retries = more_retries (w.progress).retries }) elapsed (result_of_delivery outcome)
+      went = goes-on environment f1 reclaimed.agrees i x now w waits
+          (record w.progress { retries = more_retries (w.progress).retries })
+          (can-retry f1 reclaimed.agrees i x now w waits
+          (record w.progress { retries = more_retries (w.progress).retries }) refl refl) elapsed outcome f2
           (subst (λ (v : Progress). GoesOn environment f1 i x w v elapsed outcome f2) is goes)
 
     -- it was given up there
     pub gives-up-as : (start : Progress) → start ≡ record w.progress { place = (w.progress).place + 1; retries = 0 }
-        → GoesOn environment f1 i x w start no_time outcome f2 → GivesUpAs environment f0 f2 x w (result_of_delivery outcome)
+        → GoesOn environment f1 i x w start no_time outcome f2
+        → GivesUpAs environment f0 f2 x w (result_of_delivery outcome)
     gives-up-as start is goes = record {
       agrees = went.agrees;
-      gives_up = subst (λ (c : BlockedSend). GiveUp environment (state_of (kept_of f0)) x.id c (state_of (kept_of f2)) (result_of_delivery outcome)) waiting-same
-          (subst (λ (s : State T U). GiveUp environment s x.id (waiting_send f1 x w) (state_of (kept_of f2)) (result_of_delivery outcome)) reclaimed.state
+      gives_up = subst (λ (c : BlockedSend). GiveUp environment (state_of (kept_of f0)) x.id c (state_of (kept_of f2))
+          (result_of_delivery outcome)) waiting-same
+          (subst (λ (s : State T U). GiveUp environment s x.id (waiting_send f1 x w) (state_of (kept_of f2))
+          (result_of_delivery outcome)) reclaimed.state
           (subst (λ (ends : List (Option ℕ)). DeliverAndConclude environment (state_of (kept_of f1)) x.id
           (sending (number_in_slot f1.books x.id w.slot) w.channel 0 ((w.progress).place + 1) ends (w.progress).count
           (w.progress).has_failed) no_time (state_of (kept_of f2)) (result_of_delivery outcome))
-          (ap (drop ((w.progress).place + 1)) (reach-ends f1.connections w x.keys) ∙ sym (drop-drop 1 (w.progress).place (within_reach w (sender_ends f1.connections x.keys)))) went.concludes));
+          (ap (drop ((w.progress).place + 1)) (reach-ends f1.connections w x.keys) ∙ sym
+          (drop-drop 1 (w.progress).place (within_reach w (sender_ends f1.connections x.keys)))) went.concludes));
       entries = λ m entry e. reclaimed.entries m entry (went.entries m entry e);
       places = places-then reclaimed.places went.places;
     } where
-      went : ConcludesAs environment f1 f2 x (number_in_slot f1.books x.id w.slot) w.channel (within_reach w x.keys) (record w.progress { place = (w.progress).place + 1; retries = 0 }) no_time (result_of_delivery outcome)
-      went = goes-on environment f1 reclaimed.agrees i x now w waits (record w.progress { place = (w.progress).place + 1; retries = 0 })
-          (can-give_up f1 reclaimed.agrees i x now w waits (record w.progress { place = (w.progress).place + 1; retries = 0 }) refl refl) no_time outcome f2
+      went : ConcludesAs environment f1 f2 x (number_in_slot f1.books x.id w.slot) w.channel (within_reach w x.keys)
+          (record w.progress { place = (w.progress).place + 1; retries = 0 }) no_time (result_of_delivery outcome)
+      went = goes-on environment f1 reclaimed.agrees i x now w waits
+          (record w.progress { place = (w.progress).place + 1; retries = 0 })
+          (can-give_up f1 reclaimed.agrees i x now w waits
+          (record w.progress { place = (w.progress).place + 1; retries = 0 }) refl refl) no_time outcome f2
           (subst (λ (v : Progress). GoesOn environment f1 i x w v no_time outcome f2) is goes)

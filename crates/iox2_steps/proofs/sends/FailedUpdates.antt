@@ -24,8 +24,10 @@ use Rattle.iox2_domain.proofs.lemmas.fields.ConnectionEnds.{publisher-stands}
 use Rattle.iox2_laws.proofs.Cases.{match_some}
 use Rattle.iox2_domain.proofs.lemmas.fields.PlacesKept.{places-then}
 
-module _ {T U : Type 0} (environment : Environment) (f0 : Fields T U) (sound : IsDomain f0) (p n : ℕ) (holds : HoldsWritten (state_of (kept_of f0)) p n)
-    (place : ℕ) (failure : ConnectionFailure) (f1 : Fields T U) (fails : IsNotUpdated environment f0 f1 p place failure) where
+module _ {T U : Type 0} (environment : Environment) (f0 : Fields T U) (sound : IsDomain f0) (p n : ℕ)
+    (holds : HoldsWritten (state_of (kept_of f0)) p n)
+    (place : ℕ) (failure : ConnectionFailure) (f1 : Fields T U)
+    (fails : IsNotUpdated environment f0 f1 p place failure) where
   abbrev sender : PublisherFields
   sender = fails.publisher
 
@@ -53,18 +55,22 @@ module _ {T U : Type 0} (environment : Environment) (f0 : Fields T U) (sound : I
   failed-holds = (holds.0, still-out, holds.2)
 
   -- the whole send, where the loan is given back then
-  pub failed-sends : (f2 : Fields T U) → DiscardsLoan f1 f2 n → SendsKeptLoan environment f0 f2 n (Send_error (ConnectionError failure))
+  pub failed-sends : (f2 : Fields T U) → DiscardsLoan f1 f2 n
+      → SendsKeptLoan environment f0 f2 n (Send_error (ConnectionError failure))
   failed-sends f2 d = record {
     loan = holds.0;
     out = holds.1;
     agrees = (d.2).agrees;
-    sends = match_some (s0.publishers holds.0.publisher) _ _ _ (ap s0.publishers (holds.2 ∙ sym fails.is_its) ∙ stands) (
-      u.after,
-      Some failure,
-      subst (λ (q : ℕ). UpdatePublisher environment s0 q u.after (Some failure)) (fails.is_its ∙ sym holds.2) u.updates,
-      ((d.2).state ∙ (λ k. loan_discarded (u.reaches.state k) n (same k)), refl),
-    );
-    loans = ap (λ (s : State T U). s.loans) (d.2).state ∙ ap (λ (loans : ℕ → Option (Loan T U)). put_at loans n None) loans-are;
+    sends =
+        match_some (s0.publishers holds.0.publisher) _ _ _ (ap s0.publishers (holds.2 ∙ sym fails.is_its) ∙ stands) (
+          u.after,
+          Some failure,
+          subst (λ (q : ℕ). UpdatePublisher environment s0 q u.after (Some failure))
+              (fails.is_its ∙ sym holds.2) u.updates,
+          ((d.2).state ∙ (λ k. loan_discarded (u.reaches.state k) n (same k)), refl),
+        );
+    loans = ap (λ (s : State T U). s.loans) (d.2).state
+        ∙ ap (λ (loans : ℕ → Option (Loan T U)). put_at loans n None) loans-are;
     entries = λ m entry e. inr (u.reaches.entries m entry ((d.2).entries m entry e));
     places = places-then u.reaches.places (d.2).places;
     lost = λ error other is m entry e. u.reaches.entries m entry ((d.2).entries m entry e);

@@ -41,7 +41,8 @@ use Rattle.iox2_domain.proofs.lemmas.fields.PlacesKept.{places-then}
 
 -- a loan that lies in its publisher's book may be sent at once where the publisher isn't due
 pub ready-in-book : {T U : Type 0} (environment : Environment) (f : Fields T U) → IsDomain f → (p n place key slot : ℕ)
-    → (x : PublisherFields) → get_or f.publishers place None ≡ Some x → x.is_due ≡ false → x.book ≡ key → LiesInSlot f p n key slot → IsReadyToSend environment f f p n place slot
+    → (x : PublisherFields) → get_or f.publishers place None ≡ Some x → x.is_due ≡ false → x.book ≡ key
+    → LiesInSlot f p n key slot → IsReadyToSend environment f f p n place slot
 ready-in-book {T} {U} environment f sound p n place key slot x stands idle same lies =
     let its : LiesInSlot f p n x.book slot = subst (λ (k : ℕ). LiesInSlot f p n k slot) (sym same) lies in
     record {
@@ -53,8 +54,10 @@ ready-in-book {T} {U} environment f sound p n place key slot x stands idle same 
       lies = its;
     }
 
-module _ {T U : Type 0} (environment : Environment) (f0 : Fields T U) (sound : IsDomain f0) (p n place : ℕ) (holds : HoldsWritten (state_of (kept_of f0)) p n)
-    (found : (x : PublisherFields) × (get_or f0.publishers place None ≡ Some x) × (x.id ≡ p)) (free : (found.0).blocked ≡ None)
+module _ {T U : Type 0} (environment : Environment) (f0 : Fields T U) (sound : IsDomain f0) (p n place : ℕ)
+    (holds : HoldsWritten (state_of (kept_of f0)) p n)
+    (found : (x : PublisherFields) × (get_or f0.publishers place None ≡ Some x) × (x.id ≡ p))
+    (free : (found.0).blocked ≡ None)
     (f1 : Fields T U) (u : UpdatesKeptPublisher environment f0 place found.0 f1 None) where
   -- the publisher after its update
   abbrev sender : PublisherFields
@@ -72,7 +75,8 @@ module _ {T U : Type 0} (environment : Environment) (f0 : Fields T U) (sound : I
 
   loans-are : (state_of (kept_of f1)).loans ≡ (state_of (kept_of f0)).loans
   loans-are = ap (λ (s : State T U). s.loans) u.reaches.state
-      ∙ (update_publisher_leaves environment (state_of (kept_of f0)) found.0.id u.after None _ (publisher-stands f0 sound.parts place found.0 found.1) u.updates).5
+      ∙ (update_publisher_leaves environment (state_of (kept_of f0)) found.0.id u.after None _
+      (publisher-stands f0 sound.parts place found.0 found.1) u.updates).5
 
   still-out : (state_of (kept_of f1)).loans n ≡ Some holds.0
   still-out = ap (λ (loans : ℕ → Option (Loan T U)). loans n) loans-are ∙ holds.1
@@ -88,10 +92,12 @@ module _ {T U : Type 0} (environment : Environment) (f0 : Fields T U) (sound : I
     key-is : key ≡ sender.book
     key-is =
         let has = updated-agrees.parts.books.publishers place sender sender-stands in
-        (updated-agrees.parts.books.one_each p).one key sender.book at.book has.book at.stands has.stands (eq-eqb (at.book).publisher p at.is_its) (eq-eqb (has.book).publisher p (has.is_its ∙ found.2))
+        (updated-agrees.parts.books.one_each p).one key sender.book at.book has.book at.stands has.stands
+        (eq-eqb (at.book).publisher p at.is_its) (eq-eqb (has.book).publisher p (has.is_its ∙ found.2))
 
     lies : lies_at f1 sender.book slot ≡ Some (Lent_message n holds.0)
-    lies = sym (ap (λ k. lies_at f1 k slot) key-is) ∙ message_at-slot f1.contents f1.books key slot at.book at.stands ∙ at.lies ∙ ap (λ (l : Loan T U). Some (Lent_message n l)) loan-same
+    lies = sym (ap (λ k. lies_at f1 k slot) key-is) ∙ message_at-slot f1.contents f1.books key slot at.book at.stands
+        ∙ at.lies ∙ ap (λ (l : Loan T U). Some (Lent_message n l)) loan-same
 
     -- it may be sent
     pub can-send : CanSend f1 sender slot
@@ -102,22 +108,30 @@ module _ {T U : Type 0} (environment : Environment) (f0 : Fields T U) (sound : I
           stands = stands;
           own = loan-own f1 updated-agrees place sender sender-stands slot n holds.0 lies at.book stands;
           alone = loan-alone f1 updated-agrees place sender sender-stands slot n holds.0 lies at.book stands;
-          once = let once : times slot sender.loans ≡ 1 = loan-once f1 updated-agrees place sender sender-stands slot n holds.0 lies in omega (arith, once);
+          once = let once : times slot sender.loans
+              ≡ 1 = loan-once f1 updated-agrees place sender sender-stands slot n holds.0 lies in omega (arith, once);
         }
 
     -- the whole send
-    pub sends-loan : (outcome : DeliveryOutcome) (f2 : Fields T U) → ((x : PublisherFields) → get_or f1.publishers place None ≡ Some x → SendsSlot environment f1 place x slot outcome f2) → SendsKeptLoan environment f0 f2 n (result_of_delivery outcome)
+    pub sends-loan : (outcome : DeliveryOutcome) (f2 : Fields T U)
+        → ((x : PublisherFields) → get_or f1.publishers place None ≡ Some x
+        → SendsSlot environment f1 place x slot outcome f2)
+        → SendsKeptLoan environment f0 f2 n (result_of_delivery outcome)
     sends-loan outcome f2 sends = record {
       loan = holds.0;
       out = holds.1;
       agrees = published.agrees;
-      sends = match_some ((state_of (kept_of f0)).publishers holds.0.publisher) _ _ _ (ap (state_of (kept_of f0)).publishers holds.2 ∙ present) (
-        u.after,
-        None,
-        subst (λ (q : ℕ). UpdatePublisher environment (state_of (kept_of f0)) q u.after None) (found.2 ∙ sym holds.2) u.updates,
-        subst (λ (q : ℕ). Publish environment u.after q n (state_of (kept_of f2)) (result_of_delivery outcome)) (found.2 ∙ sym holds.2)
-            (subst (λ (s : State T U). Publish environment s sender.id n (state_of (kept_of f2)) (result_of_delivery outcome)) u.reaches.state published.publishes),
-      );
+      sends = match_some ((state_of (kept_of f0)).publishers holds.0.publisher) _ _ _
+          (ap (state_of (kept_of f0)).publishers holds.2 ∙ present) (
+            u.after,
+            None,
+            subst (λ (q : ℕ). UpdatePublisher environment (state_of (kept_of f0)) q u.after None)
+                (found.2 ∙ sym holds.2) u.updates,
+            subst (λ (q : ℕ). Publish environment u.after q n (state_of (kept_of f2)) (result_of_delivery outcome))
+                (found.2 ∙ sym holds.2)
+                (subst (λ (s : State T U). Publish environment s sender.id n (state_of (kept_of f2))
+                (result_of_delivery outcome)) u.reaches.state published.publishes),
+          );
       loans = published.loans ∙ ap (λ (loans : ℕ → Option (Loan T U)). put_at loans n None) loans-are;
       entries = λ m entry e. elim (published.entries m entry e) [
         | inl new ↦ inl new
@@ -125,24 +139,35 @@ module _ {T U : Type 0} (environment : Environment) (f0 : Fields T U) (sound : I
       ];
       places = places-then u.reaches.places published.places;
       lost = λ error other failed. absurd (goes outcome error other failed);
-      unfailed = λ quiet failed. fails outcome refl (quiet _ (ap (state_of (kept_of f0)).publishers holds.2 ∙ present)) failed;
+      unfailed =
+          λ quiet failed. fails outcome refl (quiet _ (ap (state_of (kept_of f0)).publishers holds.2 ∙ present)) failed;
     }
       where
         d : SendsSlot environment f1 place sender slot outcome f2
         d = sends sender sender-stands
 
         -- nothing but a handler fails a send that was begun
-        goes : (o : DeliveryOutcome) (error : SendError) → error ≢ UnableToDeliver → result_of_delivery o ≡ Send_error error → ⊥
-        goes (DeliveryOutcome.Suspended progress) error other failed = absurd (let no : Blocked_send ≡ Send_error error = failed in cc)
-        goes (DeliveryOutcome.Complete count true) error other failed = other (let same : Send_error UnableToDeliver ≡ Send_error error = failed in cc)
-        goes (DeliveryOutcome.Complete count false) error other failed = absurd (let no : Delivered_to count ≡ Send_error error = failed in cc)
+        goes : (o : DeliveryOutcome) (error : SendError) → error ≢ UnableToDeliver
+            → result_of_delivery o ≡ Send_error error → ⊥
+        goes (DeliveryOutcome.Suspended progress) error other failed =
+            absurd (let no : Blocked_send ≡ Send_error error = failed in cc)
+        goes (DeliveryOutcome.Complete count true) error other failed =
+            other (let same : Send_error UnableToDeliver ≡ Send_error error = failed in cc)
+        goes (DeliveryOutcome.Complete count false) error other failed =
+            absurd (let no : Delivered_to count ≡ Send_error error = failed in cc)
 
         -- and the publisher's own doesn't, where it fails none
-        fails : (o : DeliveryOutcome) → outcome ≡ o → may_fail sender.backpressure_handler ≡ false → result_of_delivery o ≡ Send_error UnableToDeliver → ⊥
-        fails (DeliveryOutcome.Suspended progress) is quiet failed = absurd (let no : Blocked_send ≡ Send_error UnableToDeliver = failed in cc)
+        fails : (o : DeliveryOutcome) → outcome ≡ o → may_fail sender.backpressure_handler ≡ false
+            → result_of_delivery o ≡ Send_error UnableToDeliver → ⊥
+        fails (DeliveryOutcome.Suspended progress) is quiet failed =
+            absurd (let no : Blocked_send ≡ Send_error UnableToDeliver = failed in cc)
         fails (DeliveryOutcome.Complete count has_failed) is quiet failed =
-            let none : has_failed ≡ false = never-fails environment f1 sender 0 sender.keys slot begun no_time outcome d.delivered d.delivers quiet refl count has_failed is in
-            absurd (let no : Delivered_to count ≡ Send_error UnableToDeliver = sym (ap (λ (t : Bool). cond t (Send_error UnableToDeliver) (Delivered_to count)) none) ∙ failed in cc)
+            let none : has_failed ≡ false =
+            never-fails environment f1 sender 0 sender.keys slot begun no_time outcome d.delivered d.delivers quiet refl
+            count has_failed is in
+            absurd (let no : Delivered_to count ≡ Send_error UnableToDeliver = sym
+            (ap (λ (t : Bool). cond t (Send_error UnableToDeliver) (Delivered_to count)) none) ∙ failed in cc)
 
         published : Publishes environment f1 f2 sender.id n holds.0 (result_of_delivery outcome)
-        published = send-publishes environment f1 updated-agrees place sender sender-stands slot n holds.0 lies holds.3 free outcome f2 d
+        published = send-publishes environment f1 updated-agrees place sender sender-stands slot n holds.0 lies holds.3
+            free outcome f2 d

@@ -1,5 +1,6 @@
 -- A history that is one message too long loses its oldest.
-use Rattle.std.proofs.Common.{◌≡◌, ℕ, ◌+◌, ◌-◌, ◌<◌, ◌≤◌, Bool, true, false, cond, List, [], ◌∷◌, ◌++◌, length, drop, map, get_or, refl, ap, sym, subst, ◌∙◌, inl, inr, arith}
+use Rattle.std.proofs.Common.{◌≡◌, ℕ, ◌+◌, ◌-◌, ◌<◌, ◌≤◌, Bool, true, false, cond, List, [], ◌∷◌, ◌++◌, length, drop}
+use Rattle.std.proofs.Common.{map, get_or, refl, ap, sym, subst, ◌∙◌, inl, inr, arith}
 use Rattle.std.proofs.lemmas.Bool.{cases_eq, ltb-true, ltb-false}
 use Rattle.std.proofs.lemmas.List.{set-get_or, length-set, length-append, length-map}
 use Rattle.std.specs.Prelude.{slice_set, slice_get, nat_lt}
@@ -22,7 +23,8 @@ use Rattle.iox2_domain.specs.Deliveries.{with_left}
 use Rattle.iox2_domain.proofs.lemmas.slots.Messages.{lies_at, message_in-parts, message_at-slot}
 use Rattle.iox2_domain.proofs.lemmas.slots.PublisherBooks.{book-counts}
 use Rattle.iox2_domain.proofs.lemmas.slots.LoneLoans.{lone-counters}
-use Rattle.iox2_domain.proofs.lemmas.slots.Rebooked.{CanRebook, rebooked, rebooked-parts, rebooked-is, rebooked-entries, rebooked-keeps, rebooked-number}
+use Rattle.iox2_domain.proofs.lemmas.slots.Rebooked.{CanRebook, rebooked, rebooked-parts, rebooked-is, rebooked-entries}
+use Rattle.iox2_domain.proofs.lemmas.slots.Rebooked.{rebooked-keeps, rebooked-number}
 use Rattle.iox2_domain.proofs.lemmas.loans.PublisherChanges.{other_slots}
 
 -- ---- lists
@@ -38,7 +40,12 @@ last-long n x xs is = let one : length (x ∷ xs) - n ≡ 1 = omega (arith, is) 
 -- a list with one more behind has a first
 pub first-of : (xs : List ℕ) (y : ℕ) → (x : ℕ) × (rest : List ℕ) × (xs ++ y ∷ [] ≡ x ∷ rest) × (length rest ≡ length xs)
 first-of [] y = (y, [], refl, refl)
-first-of (x ∷ xs) y = (x, xs ++ y ∷ [], refl, let long : length (xs ++ y ∷ []) ≡ length xs + 1 = length-append xs (y ∷ []) in omega (arith, long))
+first-of (x ∷ xs) y = (
+  x,
+  xs ++ y ∷ [],
+  refl,
+  let long : length (xs ++ y ∷ []) ≡ length xs + 1 = length-append xs (y ∷ []) in omega (arith, long),
+)
 
 -- ---- fields
 
@@ -46,23 +53,33 @@ first-of (x ∷ xs) y = (x, xs ++ y ∷ [], refl, let long : length (xs ++ y ∷
 pub record Trims {T U : Type 0} (e h : Fields T U) (p size : ℕ) (port : Publisher) : Type 0 where
   pub parts : HasParts h
   pub lone : HasLoneLoans h.books
-  pub state : state_of (kept_of h) ≡ record (state_of (kept_of e)) { publishers = put_at (state_of (kept_of e)).publishers p (Some (record port { history = last_n size port.history })) }
-  pub entries : (n : ℕ) (entry : Entry T U) → entries_of (kept_of h) n ≡ Some entry → entries_of (kept_of e) n ≡ Some entry
-  pub keeps : (q n : ℕ) (entry : Entry T U) → IsHeldMessage (state_of (kept_of h)) q n → entries_of (kept_of e) n ≡ Some entry → entries_of (kept_of h) n ≡ Some entry
-  pub numbers : (k s m : ℕ) (has : HasNumber h.books k s m) → (old : HasNumber e.books k s m) × ((old.book).publisher ≡ (has.book).publisher)
+  pub state : state_of (kept_of h) ≡ record (state_of (kept_of e)) {
+    publishers = put_at (state_of (kept_of e)).publishers p
+        (Some (record port { history = last_n size port.history }));
+  }
+  pub entries : (n : ℕ) (entry : Entry T U) → entries_of (kept_of h) n ≡ Some entry
+      → entries_of (kept_of e) n ≡ Some entry
+  pub keeps : (q n : ℕ) (entry : Entry T U) → IsHeldMessage (state_of (kept_of h)) q n
+      → entries_of (kept_of e) n ≡ Some entry → entries_of (kept_of h) n ≡ Some entry
+  pub numbers : (k s m : ℕ) (has : HasNumber h.books k s m)
+      → (old : HasNumber e.books k s m) × ((old.book).publisher ≡ (has.book).publisher)
 
-module _ {T U : Type 0} (e : Fields T U) (parts : HasParts e) (i : ℕ) (z : PublisherFields) (here : get_or e.publishers i None ≡ Some z)
+module _ {T U : Type 0} (e : Fields T U) (parts : HasParts e) (i : ℕ) (z : PublisherFields)
+    (here : get_or e.publishers i None ≡ Some z)
     (b : Book) (at : get e.books z.book ≡ Some b) (mine : b.publisher ≡ z.id) (lone : HasLoneLoans e.books)
     (stands : (state_of (kept_of e)).publishers z.id ≡ Some ((publisher_of e.books e.connections z).port))
-    (items : List ℕ) (slot : ℕ) (capacity : ℕ) (long : z.history ≡ buffer (items ++ slot ∷ []) capacity) (few : length items ≤ capacity)
-    (is_sent : (oldest n : ℕ) (l : Loan T U) → slice_get (items ++ slot ∷ []) 0 ≡ Some oldest → lies_at e z.book oldest ≡ Some (Lent_message n l) → ⊥) where
+    (items : List ℕ) (slot : ℕ) (capacity : ℕ) (long : z.history ≡ buffer (items ++ slot ∷ []) capacity)
+    (few : length items ≤ capacity)
+    (is_sent : (oldest n : ℕ) (l : Loan T U) → slice_get (items ++ slot ∷ []) 0 ≡ Some oldest
+    → lies_at e z.book oldest ≡ Some (Lent_message n l) → ⊥) where
   abbrev port : Publisher
   port = (publisher_of e.books e.connections z).port
 
   -- with this slot gone
   abbrev pub trimmed : Option ℕ → Fields T U
   trimmed gone = record e {
-    publishers = slice_set e.publishers i (Some (record z { history = buffer (keep_last capacity (items ++ slot ∷ [])) capacity }));
+    publishers = slice_set e.publishers i
+        (Some (record z { history = buffer (keep_last capacity (items ++ slot ∷ [])) capacity }));
     books = with_value e.books z.book (with_left gone b);
   }
 
@@ -78,7 +95,8 @@ module _ {T U : Type 0} (e : Fields T U) (parts : HasParts e) (i : ℕ) (z : Pub
     short : keep_last capacity (items ++ slot ∷ []) ≡ items ++ slot ∷ []
     short = last-short capacity (items ++ slot ∷ []) (omega (arith, one-more))
 
-    publishers : slice_set e.publishers i (Some (record z { history = buffer (keep_last capacity (items ++ slot ∷ [])) capacity })) ≡ e.publishers
+    publishers : slice_set e.publishers i
+        (Some (record z { history = buffer (keep_last capacity (items ++ slot ∷ [])) capacity })) ≡ e.publishers
     publishers =
         (λ t. slice_set e.publishers i (Some (record z { history = buffer (short t) capacity })))
         ∙ (λ t. slice_set e.publishers i (Some (record z { history = sym long t })))
@@ -98,16 +116,20 @@ module _ {T U : Type 0} (e : Fields T U) (parts : HasParts e) (i : ℕ) (z : Pub
     numbers = λ k s m has. (has, refl);
   } where
     same : last_n capacity port.history ≡ port.history
-    same = last-short capacity port.history (let size : length port.history ≡ length z.history.items = length-map z.history.items (number_in_slot e.books z.id) in omega (arith, size, ap (length {A = ℕ}) all, one-more))
+    same = last-short capacity port.history
+        (let size : length port.history ≡ length z.history.items = length-map z.history.items
+        (number_in_slot e.books z.id) in omega (arith, size, ap (length {A = ℕ}) all, one-more))
 
-    publishers : (state_of (kept_of e)).publishers ≡ put_at (state_of (kept_of e)).publishers z.id (Some (record port { history = last_n capacity port.history }))
+    publishers : (state_of (kept_of e)).publishers ≡ put_at (state_of (kept_of e)).publishers z.id
+        (Some (record port { history = last_n capacity port.history }))
     publishers =
         put_at-own (state_of (kept_of e)).publishers z.id
         ∙ ap (put_at (state_of (kept_of e)).publishers z.id) stands
         ∙ (λ t. put_at (state_of (kept_of e)).publishers z.id (Some (record port { history = sym same t })))
 
   -- the oldest is lost
-  module _ (full : length items ≡ capacity) (oldest : ℕ) (rest : List ℕ) (split : items ++ slot ∷ [] ≡ oldest ∷ rest) (size : length rest ≡ length items) where
+  module _ (full : length items ≡ capacity) (oldest : ℕ) (rest : List ℕ) (split : items ++ slot ∷ [] ≡ oldest ∷ rest)
+      (size : length rest ≡ length items) where
     abbrev shorter : PublisherFields
     shorter = record z { history = buffer rest (z.history).capacity }
 
@@ -134,9 +156,12 @@ module _ {T U : Type 0} (e : Fields T U) (parts : HasParts e) (i : ℕ) (z : Pub
       used = λ s some. omega (arith, some, less s);
       counts = λ s. omega (arith, counts s, less s);
       lent = λ s n l none lies. elim (cases_eq s oldest) [
-        | inl same ↦ is_sent oldest n l (ap (λ (xs : List ℕ). slice_get xs 0) split) (ap (λ k. lies_at e z.book k) (sym same) ∙ lies)
+        | inl same ↦ is_sent oldest n l (ap (λ (xs : List ℕ). slice_get xs 0) split)
+            (ap (λ k. lies_at e z.book k) (sym same) ∙ lies)
         | inr away ↦
-            let used : 0 < holders_at b s = (message_in-parts b (contents_at e.contents z.book) s (Lent_message n l) (sym (message_at-slot e.contents e.books z.book s b at) ∙ lies)).in_use in
+            let used : 0 < holders_at b s =
+            (message_in-parts b (contents_at e.contents z.book) s (Lent_message n l)
+            (sym (message_at-slot e.contents e.books z.book s b at) ∙ lies)).in_use in
             absurd (omega (arith, used, none, less s, one_if_other s oldest away))
       ];
     }
@@ -149,8 +174,12 @@ module _ {T U : Type 0} (e : Fields T U) (parts : HasParts e) (i : ℕ) (z : Pub
 
     shorter-is : trimmed (Some oldest) ≡ less_one
     shorter-is =
-        (λ t. record (trimmed (Some oldest)) { publishers = slice_set e.publishers i (Some (record z { history = buffer (rest-is t) capacity })) })
-        ∙ (λ t. record (trimmed (Some oldest)) { publishers = slice_set e.publishers i (Some (record z { history = buffer rest (ap (λ (h : Buffer ℕ). h.capacity) (sym long) t) })) })
+        (λ t. record (trimmed (Some oldest))
+        { publishers = slice_set e.publishers i (Some (record z { history = buffer (rest-is t) capacity })) })
+        ∙ (λ t. record (trimmed (Some oldest)) {
+          publishers = slice_set e.publishers i
+              (Some (record z { history = buffer rest (ap (λ (h : Buffer ℕ). h.capacity) (sym long) t) }));
+        })
 
     lost : Trims e less_one z.id capacity port
     lost = record {
@@ -158,7 +187,10 @@ module _ {T U : Type 0} (e : Fields T U) (parts : HasParts e) (i : ℕ) (z : Pub
       lone = lone-counters e.books z.book b holders at lone (λ s. omega (arith, less s));
       state =
           rebooked-is e parts i z shorter here b at mine holders can-lose
-          ∙ (λ t. record (state_of (kept_of e)) { publishers = put_at (state_of (kept_of e)).publishers z.id (Some (record port { history = sym numbers-left t })) });
+          ∙ (λ t. record (state_of (kept_of e)) {
+            publishers = put_at (state_of (kept_of e)).publishers z.id
+                (Some (record port { history = sym numbers-left t }));
+          });
       entries = rebooked-entries e parts i z shorter here b at mine holders can-lose;
       keeps = rebooked-keeps e parts i z shorter here b at mine holders can-lose;
       numbers = rebooked-number e parts i z shorter here b at mine holders can-lose;
@@ -166,12 +198,15 @@ module _ {T U : Type 0} (e : Fields T U) (parts : HasParts e) (i : ℕ) (z : Pub
       numbers-left : last_n capacity port.history ≡ map (number_in_slot e.books z.id) rest
       numbers-left =
           ap (λ (xs : List ℕ). last_n capacity (map (number_in_slot e.books z.id) xs)) (all ∙ split)
-          ∙ last-long capacity (number_in_slot e.books z.id oldest) (map (number_in_slot e.books z.id) rest) (length-map rest (number_in_slot e.books z.id) ∙ size ∙ full)
+          ∙ last-long capacity (number_in_slot e.books z.id oldest) (map (number_in_slot e.books z.id) rest)
+          (length-map rest (number_in_slot e.books z.id) ∙ size ∙ full)
 
   -- the history is at most as long as it may be
-  pub trims : (h : Fields T U) → h ≡ trimmed (cond (nat_lt (length items) capacity) None (slice_get (items ++ slot ∷ []) 0)) → Trims e h z.id capacity port
+  pub trims : (h : Fields T U) → h ≡ trimmed
+      (cond (nat_lt (length items) capacity) None (slice_get (items ++ slot ∷ []) 0)) → Trims e h z.id capacity port
   trims h is = by (nat_lt (length items) capacity) refl is where
-    by : (t : Bool) → nat_lt (length items) capacity ≡ t → h ≡ trimmed (cond t None (slice_get (items ++ slot ∷ []) 0)) → Trims e h z.id capacity port
+    by : (t : Bool) → nat_lt (length items) capacity ≡ t → h ≡ trimmed (cond t None (slice_get (items ++ slot ∷ []) 0))
+        → Trims e h z.id capacity port
     by true low same =
         let lt : length items < capacity = ltb-true (length items) capacity low in
         subst (λ (g : Fields T U). Trims e g z.id capacity port) (sym (same ∙ whole lt)) (kept lt)

@@ -1,5 +1,6 @@
 -- A subscriber that went over its connections is closed.
-use Rattle.std.proofs.Common.{◌≡◌, ◌≢◌, ℕ, ◌<◌, Bool, true, false, not, List, map, eqb, get_or, refl, ap, sym, subst, ◌∙◌, inl, inr, ◌⊎◌, arith}
+use Rattle.std.proofs.Common.{◌≡◌, ◌≢◌, ℕ, ◌<◌, Bool, true, false, not, List, map, eqb, get_or, refl, ap, sym, subst}
+use Rattle.std.proofs.Common.{◌∙◌, inl, inr, ◌⊎◌, arith}
 use Rattle.std.proofs.lemmas.Bool.{cases_eq, eqb-true}
 use Rattle.std.proofs.lemmas.Option.{same_Some}
 use Rattle.std.specs.declared.option.Option.{Option}
@@ -37,7 +38,8 @@ use Rattle.iox2_domain.proofs.lemmas.fields.OwnKeys.{receiver-leads}
 use Rattle.iox2_domain.proofs.lemmas.fields.Standing.{some_is}
 use Rattle.iox2_domain.proofs.lemmas.fields.Views.{mailboxes-are}
 use Rattle.iox2_domain.specs.Midway.{IsMidway, with_channels_of}
-use Rattle.iox2_steps.proofs.releases.SettledChannels.{box-still, freed-channels, freed-linked, pruned-linked, settles-channels, shut-linked}
+use Rattle.iox2_steps.proofs.releases.SettledChannels.{box-still, freed-channels, freed-linked, pruned-linked}
+use Rattle.iox2_steps.proofs.releases.SettledChannels.{settles-channels, shut-linked}
 use Rattle.iox2_domain.specs.Reaches.{Reaches}
 use Rattle.iox2_domain.proofs.lemmas.fields.KeptBooks.{kept-but}
 use Rattle.iox2_domain.proofs.lemmas.fields.Parts.{whole_of}
@@ -65,14 +67,18 @@ module _ {T U : Type 0} where
       → IsHeldMessage (publishers_due t) p n → IsHeldMessage s p n
   held-less s t p n same boxes (In_history x at is) =
       found_mapped (due_publisher) (t.publishers p) x (IsHeldMessage s p n) at (λ z there e.
-      In_history z (ap (λ (f : ℕ → Option Publisher). f p) (sym same) ∙ there) (ap (λ (v : Publisher). contains v.history n) (sym e) ∙ is))
+      In_history z (ap (λ (f : ℕ → Option Publisher). f p) (sym same) ∙ there)
+      (ap (λ (v : Publisher). contains v.history n) (sym e) ∙ is))
   held-less s t p n same boxes (In_mailbox q is) = In_mailbox q (boxes q is)
   held-less s t p n same boxes (In_blocked_send x b at blocked is) =
       found_mapped (due_publisher) (t.publishers p) x (IsHeldMessage s p n) at (λ z there e.
-      In_blocked_send z b (ap (λ (f : ℕ → Option Publisher). f p) (sym same) ∙ there) (ap (λ (v : Publisher). v.blocked) (sym e) ∙ blocked) is)
+      In_blocked_send z b (ap (λ (f : ℕ → Option Publisher). f p) (sym same) ∙ there)
+      (ap (λ (v : Publisher). v.blocked) (sym e) ∙ blocked) is)
 
-module _ {T U : Type 0} (f : Fields T U) (sound : IsDomain f) (place : ℕ) (y : SubscriberFields) (at_y : get_or f.subscribers place None ≡ Some y)
-    (rest : SubscriberFields → ℕ → Type 0) (f' : Fields T U) (closing : IsClosing f sound place y at_y rest f') (done : (k : ℕ) → rest closing.subscriber.0 k → ⊥) where
+module _ {T U : Type 0} (f : Fields T U) (sound : IsDomain f) (place : ℕ) (y : SubscriberFields)
+    (at_y : get_or f.subscribers place None ≡ Some y)
+    (rest : SubscriberFields → ℕ → Type 0) (f' : Fields T U) (closing : IsClosing f sound place y at_y rest f')
+    (done : (k : ℕ) → rest closing.subscriber.0 k → ⊥) where
   abbrev s : State T U
   s = state_of (kept_of f)
 
@@ -100,56 +106,84 @@ module _ {T U : Type 0} (f : Fields T U) (sound : IsDomain f) (place : ℕ) (y :
   -- a publisher that the machine doesn't have stands nowhere
   departed-from : (p : ℕ) → s.publishers p ≡ None → (c : Link) → c.home.publisher ≡ p → HasNoPublisher f.publishers c
   departed-from p gone c mine i x at_x same =
-      let no : None ≡ Some _ = sym gone ∙ ap s.publishers (sym (same ∙ mine)) ∙ publisher-stands f sound.parts i x at_x in absurd cc
+      let no : None ≡ Some _ =
+      sym gone ∙ ap s.publishers (sym (same ∙ mine)) ∙ publisher-stands f sound.parts i x at_x in absurd cc
 
   -- nothing waits from one that is gone
   dropped : (p : ℕ) → s.publishers p ≡ None → HasLost (t.mailboxes p y.id)
-  dropped p gone = subst HasLost (sym (mailboxes-are f' p y.id)) (by (look_up (is_between p y.id) f'.connections.slots) refl) where
-    by : (o : Option Link) → look_up (is_between p y.id) f'.connections.slots ≡ o → HasLost (mailbox_if_any (number_in_slot f'.books p) o)
-    by None e = (refl, refl)
-    by (Some c) e =
-        let at = look_up-there (is_between p y.id) f'.connections.slots c e in
-        let parts = both-true (eqb c.home.publisher p) (eqb c.home.subscriber y.id) at.2 in
-        let none : IsDrained c = elim (closing.dropped at.0 c at.1 (eqb-true c.home.subscriber y.id parts.1) (departed-from p gone c (eqb-true c.home.publisher p parts.0))) [
-          | inl none ↦ none
-          | inr left ↦ absurd (done at.0 left)
-        ] in
-        (ap (λ (ws : List ℕ). not (is_nil (map (number_in_slot f'.books p) ws))) none.0, ap (numbered (number_in_slot f'.books p)) none.1)
+  dropped p gone =
+      subst HasLost (sym (mailboxes-are f' p y.id)) (by (look_up (is_between p y.id) f'.connections.slots) refl) where
+        by : (o : Option Link) → look_up (is_between p y.id) f'.connections.slots ≡ o
+            → HasLost (mailbox_if_any (number_in_slot f'.books p) o)
+        by None e = (refl, refl)
+        by (Some c) e =
+            let at = look_up-there (is_between p y.id) f'.connections.slots c e in
+            let parts = both-true (eqb c.home.publisher p) (eqb c.home.subscriber y.id) at.2 in
+            let none : IsDrained c =
+            elim (closing.dropped at.0 c at.1 (eqb-true c.home.subscriber y.id parts.1)
+            (departed-from p gone c (eqb-true c.home.publisher p parts.0))) [
+              | inl none ↦ none
+              | inr left ↦ absurd (done at.0 left)
+            ] in (
+              ap (λ (ws : List ℕ). not (is_nil (map (number_in_slot f'.books p) ws))) none.0,
+              ap (numbered (number_in_slot f'.books p)) none.1,
+            )
 
   -- something is borrowed in a connection with a publisher that is gone
-  busy-numbers : (k : ℕ) (c : Link) → get f'.connections k ≡ Some c → HasNoPublisher f.publishers c → is_empty_link c ≡ false
+  busy-numbers : (k : ℕ) (c : Link) → get f'.connections k ≡ Some c → HasNoPublisher f.publishers c
+      → is_empty_link c ≡ false
   busy-numbers k c at departed = by (is_empty_link c) refl where
     by : (b : Bool) → is_empty_link c ≡ b → is_empty_link c ≡ false
     by false e = e
     by true e =
         let no = link-empty c e in
-        let back = nothing-returned f' closing.parts.parts k c at (subst (λ (xs : List (Option PublisherFields)). HasNoPublisher xs c) (sym closing.publishers) departed) in
+        let back = nothing-returned f' closing.parts.parts k c at
+        (subst (λ (xs : List (Option PublisherFields)). HasNoPublisher xs c) (sym closing.publishers) departed) in
         let busy = closing.busy k c at departed in
         let some = busy.stands in
-        absurd (omega (arith, some, ap (times busy.slot) no.0, ap (times busy.slot) no.1, ap (λ (ms : List ChannelNumber). times busy.slot (map (λ (m : ChannelNumber). m.number) ms)) no.2, ap (times busy.slot) back))
+        absurd (omega (
+          arith,
+          some,
+          ap (times busy.slot) no.0,
+          ap (times busy.slot) no.1,
+          ap (λ (ms : List ChannelNumber). times busy.slot (map (λ (m : ChannelNumber). m.number) ms)) no.2,
+          ap (times busy.slot) back,
+        ))
 
   -- and who is known and gone has something left
-  known : (p : ℕ) (v : Subscriber) → t.subscribers y.id ≡ Some v → (contains v.expired p ≡ true) ⊎ LeadsTo v.ends p → s.publishers p ≡ None → has_numbers (t.mailboxes p y.id) ≡ true
-  known p v at_v knows gone = by (subst (λ (u : Subscriber). (contains u.expired p ≡ true) ⊎ LeadsTo u.ends p) (same_Some v _ (sym at_v ∙ there)) knows) where
-    through : (k : ℕ) (c : Link) → get f'.connections k ≡ Some c → c.home.publisher ≡ p → c.home.subscriber ≡ z.id → has_numbers (t.mailboxes p y.id) ≡ true
-    through k c at mine its =
-        (λ i. has_numbers (t.mailboxes (sym mine i) (sym (its ∙ closing.subscriber.2) i)))
-        ∙ box-numbers f' closing.parts k c at
-        ∙ ap not (busy-numbers k c at (departed-from p gone c mine))
+  known : (p : ℕ) (v : Subscriber) → t.subscribers y.id ≡ Some v → (contains v.expired p ≡ true) ⊎ LeadsTo v.ends p
+      → s.publishers p ≡ None → has_numbers (t.mailboxes p y.id) ≡ true
+  known p v at_v knows gone =
+      by (subst (λ (u : Subscriber). (contains u.expired p ≡ true) ⊎ LeadsTo u.ends p)
+      (same_Some v _ (sym at_v ∙ there)) knows) where
+        through : (k : ℕ) (c : Link) → get f'.connections k ≡ Some c → c.home.publisher ≡ p → c.home.subscriber ≡ z.id
+            → has_numbers (t.mailboxes p y.id) ≡ true
+        through k c at mine its =
+            (λ i. has_numbers (t.mailboxes (sym mine i) (sym (its ∙ closing.subscriber.2) i)))
+            ∙ box-numbers f' closing.parts k c at
+            ∙ ap not (busy-numbers k c at (departed-from p gone c mine))
 
-    by : (contains (occupants (receiver_ends f'.connections (map Some z.expired))) p ≡ true) ⊎ LeadsTo (receiver_ends f'.connections z.keys) p → has_numbers (t.mailboxes p y.id) ≡ true
-    by (inl expired) =
-        let leads = leads_to (receiver_ends f'.connections (map Some z.expired)) p expired in
-        let to = receiver-leads f'.connections (map Some z.expired) leads.0 p leads.1 in
-        let own = some_is (IsReceivers z.id (f'.config).subscriber_max_borrowed_samples) (get f'.connections to.0) ((closing.parts.parts.linked.expired place z at_z).at leads.0 to.0 to.2) in
-        through to.0 own.0 own.1 (let one : Some own.0 ≡ Some to.1 = sym own.1 ∙ to.3 in let is : own.0 ≡ to.1 = cc in ap (λ (d : Link). d.home.publisher) is ∙ to.4) own.2.subscriber
-    by (inr leads) =
-        let to = receiver-leads f'.connections z.keys leads.0 p leads.1 in
-        let own = some_is (IsReceivers z.id (f'.config).subscriber_max_borrowed_samples) (get f'.connections to.0) ((closing.parts.parts.linked.receivers place z at_z).at leads.0 to.0 to.2) in
-        through to.0 own.0 own.1 (let one : Some own.0 ≡ Some to.1 = sym own.1 ∙ to.3 in let is : own.0 ≡ to.1 = cc in ap (λ (d : Link). d.home.publisher) is ∙ to.4) own.2.subscriber
+        by : (contains (occupants (receiver_ends f'.connections (map Some z.expired))) p ≡ true)
+            ⊎ LeadsTo (receiver_ends f'.connections z.keys) p → has_numbers (t.mailboxes p y.id) ≡ true
+        by (inl expired) =
+            let leads = leads_to (receiver_ends f'.connections (map Some z.expired)) p expired in
+            let to = receiver-leads f'.connections (map Some z.expired) leads.0 p leads.1 in
+            let own = some_is (IsReceivers z.id (f'.config).subscriber_max_borrowed_samples) (get f'.connections to.0)
+            ((closing.parts.parts.linked.expired place z at_z).at leads.0 to.0 to.2) in
+            through to.0 own.0 own.1
+            (let one : Some own.0 ≡ Some to.1 = sym own.1 ∙ to.3 in let is : own.0 ≡ to.1 = cc in
+            ap (λ (d : Link). d.home.publisher) is ∙ to.4) own.2.subscriber
+        by (inr leads) =
+            let to = receiver-leads f'.connections z.keys leads.0 p leads.1 in
+            let own = some_is (IsReceivers z.id (f'.config).subscriber_max_borrowed_samples) (get f'.connections to.0)
+            ((closing.parts.parts.linked.receivers place z at_z).at leads.0 to.0 to.2) in
+            through to.0 own.0 own.1
+            (let one : Some own.0 ≡ Some to.1 = sym own.1 ∙ to.3 in let is : own.0 ≡ to.1 = cc in
+            ap (λ (d : Link). d.home.publisher) is ∙ to.4) own.2.subscriber
 
   -- so it is closed, but for its place
-  closed-but : publishers_due t ≡ record (subscriber_pruned (subscriber_shut s y.id port) y.id) { channels = t.channels }
+  closed-but : publishers_due t ≡ record (subscriber_pruned (subscriber_shut s y.id port) y.id)
+      { channels = t.channels }
   closed-but = sheds-closed s y.id port t closing.sheds dropped known
 
   -- ---- the publishers are due, and it may go
@@ -164,24 +198,29 @@ module _ {T U : Type 0} (f : Fields T U) (sound : IsDomain f) (place : ℕ) (y :
   g-parts = due-parts f' closing.parts
 
   keeps : KeepsMessages f g
-  keeps = keeps-trans f f' g closing.messages (record { back = λ k slot m e. e; forth = λ k slot n m has e. e; number = λ k slot n has. has })
+  keeps = keeps-trans f f' g closing.messages
+      (record { back = λ k slot m e. e; forth = λ k slot n m has e. e; number = λ k slot n has. has })
 
   -- a book of a publisher that is gone is held
   kept : KeepsBooks g.next_port g.publishers g.books
   kept = record {
-    at = λ k b at_b. elim (g-parts.owners.at k b at_b) [ inl has ↦ inl has | inr gone ↦ inr (gone, closing.held k b at_b (orphan b gone)) ];
+    at = λ k b at_b. elim (g-parts.owners.at k b at_b)
+        [ inl has ↦ inl has | inr gone ↦ inr (gone, closing.held k b at_b (orphan b gone)) ];
   } where
     orphan : (b : Book) → IsOrphan g b → IsOrphan f b
     orphan b gone = record {
       known = subst (λ (n : ℕ). b.publisher < n) closing.next_port gone.known;
       absent = λ i x at_x. gone.absent i (due x) (map-at due f'.publishers i
-          ∙ ap (λ (xs : List (Option PublisherFields)). option_map due (get_or xs i None)) closing.publishers ∙ ap (option_map due) at_x);
+          ∙ ap (λ (xs : List (Option PublisherFields)). option_map due (get_or xs i None)) closing.publishers
+          ∙ ap (option_map due) at_x);
     }
 
-  fewer : (p q n : ℕ) → contains (numbers_in (t.mailboxes p q)) n ≡ true → contains (numbers_in (s.mailboxes p q)) n ≡ true
+  fewer : (p q n : ℕ) → contains (numbers_in (t.mailboxes p q)) n ≡ true
+      → contains (numbers_in (s.mailboxes p q)) n ≡ true
   fewer p q n has = elim ((closing.sheds).boxes p q) [
     | inl same ↦ ap (λ (box : Mailbox). contains (numbers_in box) n) (sym same) ∙ has
-    | inr lost ↦ contains_in_dropped (s.mailboxes p q) n (ap (λ (box : Mailbox). contains (numbers_in box) n) (sym lost.2) ∙ has)
+    | inr lost ↦
+        contains_in_dropped (s.mailboxes p q) n (ap (λ (box : Mailbox). contains (numbers_in box) n) (sym lost.2) ∙ has)
   ]
 
   -- the fields agree, and what they keep is what the machine has before the subscriber goes
@@ -193,30 +232,40 @@ module _ {T U : Type 0} (f : Fields T U) (sound : IsDomain f) (place : ℕ) (y :
     state = g-is;
     channels = closing.channels;
     entries = keeps-entries f g sound.parts.numbered g-parts keeps;
-    places = subst (λ (next : ℕ). StayInSlots f.next_message f.books next g.books) (sym (ap (λ (v : State T U). v.next_message) (closing.sheds).state)) (places-back keeps.number);
+    places = subst (λ (next : ℕ). StayInSlots f.next_message f.books next g.books)
+        (sym (ap (λ (v : State T U). v.next_message) (closing.sheds).state)) (places-back keeps.number);
     complete = keeps-complete f g sound.parts.numbered g-parts keeps sound.entries (λ p n held.
-        held-less s t p n same-publishers (λ q. fewer p q n) (subst (λ (v : State T U). IsHeldMessage v p n) (publishers_due-are f') held));
+        held-less s t p n same-publishers (λ q. fewer p q n)
+        (subst (λ (v : State T U). IsHeldMessage v p n) (publishers_due-are f') held));
   }
 
   -- what is asked of it before it goes
   pub closes-parts : HasParts g
   closes-parts = g-parts.parts
 
-  pub closes-stands : (z : SubscriberFields) × (get_or g.subscribers place None ≡ Some z) × ((p : ℕ) → MailboxIsWellFormed (state_of (kept_of g)) p z.id)
+  pub closes-stands : (z : SubscriberFields) × (get_or g.subscribers place None ≡ Some z)
+      × ((p : ℕ) → MailboxIsWellFormed (state_of (kept_of g)) p z.id)
   closes-stands = (
     z,
     at_z,
     λ p.
         subst (λ (v : State T U). MailboxIsWellFormed v p z.id) (sym g-is)
         (box-still (subscriber_pruned (subscriber_shut s y.id port) y.id) (state_of (kept_of g)).channels p z.id
-        (subst (MailboxIsWellFormed (subscriber_pruned (subscriber_shut s y.id port) y.id) p) (sym closing.subscriber.2) ((closed_nearly s sound.well_formed y.id port here).rest.mailboxes p y.id))),
+        (subst (MailboxIsWellFormed (subscriber_pruned (subscriber_shut s y.id port) y.id) p) (sym closing.subscriber.2)
+        ((closed_nearly s sound.well_formed y.id port here).rest.mailboxes p y.id))),
   )
 
   -- when it is gone, if it has borrowed nothing, it is closed
   pub closes : (new : Fields T U) → FreesMidway g z.id new → Reaches f new (subscriber_closed s y.id port)
   closes new frees = record {
     agrees = whole_of new one.consistent one.lone
-        (record { at = λ k b at_b. elim (cases_eq k 0) [ inl first ↦ other.kept_books.others k b (λ is. let clash : k ≡ 1 = is in omega (arith, first, clash)) at_b | inr away ↦ one.kept_books.others k b away at_b ] })
+        (record {
+          at = λ k b at_b. elim (cases_eq k 0) [
+            | inl first ↦ other.kept_books.others k b (λ is. let clash : k ≡ 1 = is in
+                omega (arith, first, clash)) at_b
+            | inr away ↦ one.kept_books.others k b away at_b
+          ];
+        })
         (subst IsWellFormed (sym state-is) (subscriber_closed_keeps s sound.well_formed y.id port here)) one.complete;
     state = state-is;
     entries = one.entries;
@@ -230,7 +279,8 @@ module _ {T U : Type 0} (f : Fields T U) (sound : IsDomain f) (place : ℕ) (y :
     unsettled = freed_if_unused (subscriber_pruned (subscriber_shut s y.id port) y.id) y.id
 
     shown : state_of (kept_of new) ≡ with_channels_of new unsettled
-    shown = one.state ∙ ap (λ (q : ℕ). with_channels_of new (freed_if_unused (subscriber_pruned (subscriber_shut s y.id port) y.id) q)) closing.subscriber.2
+    shown = one.state ∙ ap (λ (q : ℕ). with_channels_of new
+        (freed_if_unused (subscriber_pruned (subscriber_shut s y.id port) y.id) q)) closing.subscriber.2
 
     linked : (p q : ℕ) → q ≢ y.id → is_linked (state_of (kept_of new)) p q ≡ is_linked s p q
     linked p q away =
@@ -243,4 +293,5 @@ module _ {T U : Type 0} (f : Fields T U) (sound : IsDomain f) (place : ℕ) (y :
     other = frees f (subscriber_pruned (subscriber_shut s y.id port) y.id) 1 (midway 1)
 
     state-is : state_of (kept_of new) ≡ subscriber_closed s y.id port
-    state-is = settles-channels f new sound.parts one.consistent y.id one.channels linked unsettled shown (freed-channels (subscriber_pruned (subscriber_shut s y.id port) y.id) y.id)
+    state-is = settles-channels f new sound.parts one.consistent y.id one.channels linked unsettled shown
+        (freed-channels (subscriber_pruned (subscriber_shut s y.id port) y.id) y.id)

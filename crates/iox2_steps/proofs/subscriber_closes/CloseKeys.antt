@@ -1,5 +1,6 @@
 -- The keys at which a subscriber that closes still has to look.
-use Rattle.std.proofs.Common.{◌≡◌, ◌≢◌, ℕ, zero, suc, ◌+◌, ◌-◌, ◌<◌, ◌≤◌, Bool, true, false, not, cond, List, [], ◌∷◌, map, eqb, get_or, refl, ap, sym, subst, ◌∙◌, inl, inr, ◌⊎◌, arith}
+use Rattle.std.proofs.Common.{◌≡◌, ◌≢◌, ℕ, zero, suc, ◌+◌, ◌-◌, ◌<◌, ◌≤◌, Bool, true, false, not, cond, List, [], ◌∷◌}
+use Rattle.std.proofs.Common.{map, eqb, get_or, refl, ap, sym, subst, ◌∙◌, inl, inr, ◌⊎◌, arith}
 use Rattle.std.proofs.lemmas.Bool.{cases_eq, eqb-true}
 use Rattle.std.specs.declared.option.Option.{Option}
 use Rattle.std.specs.declared.option.Option.TheVariants.{None, Some}
@@ -29,26 +30,32 @@ pub none-left : (index count : ℕ) → count ≤ index → (z : SubscriberField
 none-left index count all z k left = let from = left.1 in let to = left.2 in omega (arith, all, from, to)
 
 -- a number of a list stands no later when another is taken out
-without-earlier : (key : ℕ) (xs : List ℕ) (i k : ℕ) → get_or (map Some xs) i None ≡ Some k → k ≢ key → (j : ℕ) × (j ≤ i) × (get_or (map Some (without key xs)) j None ≡ Some k)
+without-earlier : (key : ℕ) (xs : List ℕ) (i k : ℕ) → get_or (map Some xs) i None ≡ Some k → k ≢ key
+    → (j : ℕ) × (j ≤ i) × (get_or (map Some (without key xs)) j None ≡ Some k)
 without-earlier key [] zero k at away = absurd cc
 without-earlier key [] (suc i) k at away = absurd cc
-without-earlier key (x ∷ xs) i k at away = by (eqb x key) refl i at (λ n there. without-earlier key xs n k there away) where
-  by : (b : Bool) → eqb x key ≡ b → (i : ℕ) → get_or (map Some (x ∷ xs)) i None ≡ Some k
-      → ((n : ℕ) → get_or (map Some xs) n None ≡ Some k → (j : ℕ) × (j ≤ n) × (get_or (map Some (without key xs)) j None ≡ Some k))
-      → (j : ℕ) × (j ≤ i) × (get_or (map Some (cond (not b) (x ∷ without key xs) (without key xs))) j None ≡ Some k)
-  by true same zero at later = let is : Some x ≡ Some k = at in let one : x ≡ k = cc in absurd (away (sym one ∙ eqb-true x key same))
-  by true same (suc i) at later = let rest = later i at in (rest.0, omega (arith, rest.1), rest.2)
-  by false other zero at later = (zero, omega arith, at)
-  by false other (suc i) at later = let rest = later i at in (suc rest.0, omega (arith, rest.1), rest.2)
+without-earlier key (x ∷ xs) i k at away =
+    by (eqb x key) refl i at (λ n there. without-earlier key xs n k there away) where
+      by : (b : Bool) → eqb x key ≡ b → (i : ℕ) → get_or (map Some (x ∷ xs)) i None ≡ Some k
+          → ((n : ℕ) → get_or (map Some xs) n None ≡ Some k
+          → (j : ℕ) × (j ≤ n) × (get_or (map Some (without key xs)) j None ≡ Some k))
+          → (j : ℕ) × (j ≤ i) × (get_or (map Some (cond (not b) (x ∷ without key xs) (without key xs))) j None ≡ Some k)
+      by true same zero at later = let is : Some x ≡ Some k = at in let one : x ≡ k = cc in
+          absurd (away (sym one ∙ eqb-true x key same))
+      by true same (suc i) at later = let rest = later i at in (rest.0, omega (arith, rest.1), rest.2)
+      by false other zero at later = (zero, omega arith, at)
+      by false other (suc i) at later = let rest = later i at in (suc rest.0, omega (arith, rest.1), rest.2)
 
 -- a key that is left below the next index is left below this one, or stands there
-last : (xs : List (Option ℕ)) (count k i : ℕ) → (get_or xs count None ≡ Some k → ⊥) → i < count + 1 → get_or xs i None ≡ Some k → i < count
+last : (xs : List (Option ℕ)) (count k i : ℕ) → (get_or xs count None ≡ Some k → ⊥) → i < count + 1
+    → get_or xs i None ≡ Some k → i < count
 last xs count k i away low at = elim (cases_eq i count) [
   | inl here ↦ absurd (away (ap (λ (n : ℕ). get_or xs n None) (sym here) ∙ at))
   | inr other ↦ omega (arith, low, other)
 ]
 
-expired-still : (count : ℕ) (o : Option ℕ) (y : SubscriberFields) → o ≡ get_or (map Some y.expired) count None → (z : SubscriberFields) → IsLess o y z
+expired-still : (count : ℕ) (o : Option ℕ) (y : SubscriberFields) → o ≡ get_or (map Some y.expired) count None
+    → (z : SubscriberFields) → IsLess o y z
     → (k : ℕ) → (o ≡ Some k → ⊥) → ExpiredLeft (count + 1) y k → ExpiredLeft count z k
 expired-still count o y at z less k away left = by less left where
   below : (i : ℕ) → i < count + 1 → get_or (map Some y.expired) i None ≡ Some k → i < count
@@ -56,7 +63,8 @@ expired-still count o y at z less k away left = by less left where
 
   by : IsLess o y z → ExpiredLeft (count + 1) y k → ExpiredLeft count z k
   by (inl same) (inl has) = subst (λ (v : SubscriberFields). ExpiredLeft count v k) (sym same) (inl has)
-  by (inl same) (inr more) = subst (λ (v : SubscriberFields). ExpiredLeft count v k) (sym same) (inr (more.0, below more.0 more.1 more.2, more.2))
+  by (inl same) (inr more) = subst (λ (v : SubscriberFields). ExpiredLeft count v k) (sym same)
+      (inr (more.0, below more.0 more.1 more.2, more.2))
   by (inr gone) (inl has) = subst (λ (v : SubscriberFields). ExpiredLeft count v k) (sym gone.2)
       (inl (has.0, keeps-key gone.0 y.keys has.0 k (λ here. away (gone.1 ∙ ap Some (sym here))) has.1))
   by (inr gone) (inr more) = subst (λ (v : SubscriberFields). ExpiredLeft count v k) (sym gone.2)
@@ -64,7 +72,8 @@ expired-still count o y at z less k away left = by less left where
       let low = below more.0 more.1 more.2 in
       inr (earlier.0, omega (arith, low, earlier.1), earlier.2))
 
-keys-still : (index count : ℕ) (o : Option ℕ) (y : SubscriberFields) → o ≡ get_or y.keys index None → (z : SubscriberFields) → IsLess o y z
+keys-still : (index count : ℕ) (o : Option ℕ) (y : SubscriberFields) → o ≡ get_or y.keys index None
+    → (z : SubscriberFields) → IsLess o y z
     → (k : ℕ) → (o ≡ Some k → ⊥) → KeysLeft index count y k → KeysLeft (index + 1) count z k
 keys-still index count o y at z less k away left = (left.0, next, left.2, there less) where
   next : index + 1 ≤ left.0
@@ -79,30 +88,39 @@ keys-still index count o y at z less k away left = (left.0, next, left.2, there 
       ap (λ (v : SubscriberFields). get_or v.keys left.0 None) gone.2
       ∙ keeps-key gone.0 y.keys left.0 k (λ here. away (gone.1 ∙ ap Some (sym here))) left.3
 
-module _ {T U : Type 0} (f : Fields T U) (sound : IsDomain f) (place : ℕ) (y : SubscriberFields) (at_y : get_or f.subscribers place None ≡ Some y) (f' : Fields T U) (o : Option ℕ) where
+module _ {T U : Type 0} (f : Fields T U) (sound : IsDomain f) (place : ℕ) (y : SubscriberFields)
+    (at_y : get_or f.subscribers place None ≡ Some y) (f' : Fields T U) (o : Option ℕ) where
   -- ---- the expired key before the index
 
   module _ (index : ℕ) (some : 0 < index) (so_far : IsClosing f sound place y at_y (ExpiredLeft index) f')
-      (read : (z : SubscriberFields) → get_or f'.subscribers place None ≡ Some z → o ≡ get_or (map Some z.expired) (index - 1) None) where
+      (read : (z : SubscriberFields) → get_or f'.subscribers place None ≡ Some z
+      → o ≡ get_or (map Some z.expired) (index - 1) None) where
     -- the subscriber has it
-    pub expired-known : (k : ℕ) → o ≡ Some k → (z : SubscriberFields) × (get_or f'.subscribers place None ≡ Some z) × KnowsKey z k
+    pub expired-known : (k : ℕ) → o ≡ Some k
+        → (z : SubscriberFields) × (get_or f'.subscribers place None ≡ Some z) × KnowsKey z k
     expired-known k is =
         let z = so_far.subscriber in
         (z.0, z.1, inr (index - 1, sym (read z.0 z.1) ∙ is))
 
     -- then one fewer is left
-    pub closing-expired : (next : Fields T U) → LosesIfLeft f' place o next → IsClosing f sound place y at_y (ExpiredLeft (index - 1)) next
-    closing-expired next loses = closing-more f sound place y at_y (ExpiredLeft index) f' so_far o (ExpiredLeft (index - 1))
-        (λ z less k away left. expired-still (index - 1) o so_far.subscriber.0 (read so_far.subscriber.0 so_far.subscriber.1) z less k away
+    pub closing-expired : (next : Fields T U) → LosesIfLeft f' place o next
+        → IsClosing f sound place y at_y (ExpiredLeft (index - 1)) next
+    closing-expired next loses =
+        closing-more f sound place y at_y (ExpiredLeft index) f' so_far o (ExpiredLeft (index - 1))
+        (λ z less k away left.
+        expired-still (index - 1) o so_far.subscriber.0 (read so_far.subscriber.0 so_far.subscriber.1) z less k away
         (subst (λ (n : ℕ). ExpiredLeft n so_far.subscriber.0 k) (omega (arith, some)) left)) next loses
 
   -- ---- the key at a place
 
   module _ (index count : ℕ) (so_far : IsClosing f sound place y at_y (KeysLeft index count) f')
       (read : (z : SubscriberFields) → get_or f'.subscribers place None ≡ Some z → o ≡ get_or z.keys index None) where
-    pub key-known : (k : ℕ) → o ≡ Some k → (z : SubscriberFields) × (get_or f'.subscribers place None ≡ Some z) × KnowsKey z k
+    pub key-known : (k : ℕ) → o ≡ Some k
+        → (z : SubscriberFields) × (get_or f'.subscribers place None ≡ Some z) × KnowsKey z k
     key-known k is = let z = so_far.subscriber in (z.0, z.1, inl (index, sym (read z.0 z.1) ∙ is))
 
-    pub closing-key : (next : Fields T U) → LosesIfLeft f' place o next → IsClosing f sound place y at_y (KeysLeft (index + 1) count) next
-    closing-key next loses = closing-more f sound place y at_y (KeysLeft index count) f' so_far o (KeysLeft (index + 1) count)
+    pub closing-key : (next : Fields T U) → LosesIfLeft f' place o next
+        → IsClosing f sound place y at_y (KeysLeft (index + 1) count) next
+    closing-key next loses =
+        closing-more f sound place y at_y (KeysLeft index count) f' so_far o (KeysLeft (index + 1) count)
         (keys-still index count o so_far.subscriber.0 (read so_far.subscriber.0 so_far.subscriber.1)) next loses

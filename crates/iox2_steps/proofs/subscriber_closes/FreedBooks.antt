@@ -32,7 +32,8 @@ pub record FreesBook {T U : Type 0} (f : Fields T U) (key : ℕ) (f' : Fields T 
   pub others : (k : ℕ) → k ≢ key → get f'.books k ≡ get f.books k
   pub held : (b : Book) → get f'.books key ≡ Some b → IsUsed b
 
-module _ {T U : Type 0} (f : Fields T U) (parts : HasOwnedParts f) (key : ℕ) (b : Book) (at : get f.books key ≡ Some b) (orphan : IsOrphan f b)
+module _ {T U : Type 0} (f : Fields T U) (parts : HasOwnedParts f) (key : ℕ) (b : Book) (at : get f.books key ≡ Some b)
+    (orphan : IsOrphan f b)
     (busy : (k : ℕ) (c : Link) → get f.connections k ≡ Some c → c.home.book ≡ key → IsBusy c) where
   -- a book that some slot holds stays
   held-stays : (IsUnused b → ⊥) → FreesBook f key f
@@ -43,7 +44,8 @@ module _ {T U : Type 0} (f : Fields T U) (parts : HasOwnedParts f) (key : ℕ) (
     connections = refl;
     next_port = refl;
     others = λ k away. refl;
-    held = λ d at_d. let one : Some b ≡ Some d = sym at ∙ at_d in let is : b ≡ d = cc in subst IsUsed is (used-book b some);
+    held = λ d at_d. let one : Some b ≡ Some d = sym at ∙ at_d in let is : b ≡ d = cc in
+        subst IsUsed is (used-book b some);
   }
 
   module _ (unused : (slot : ℕ) → holders_at b slot ≡ 0) where
@@ -60,14 +62,16 @@ module _ {T U : Type 0} (f : Fields T U) (parts : HasOwnedParts f) (key : ℕ) (
     -- a book that is left was there, at another key
     was : (k : ℕ) (d : Book) → get freed.books k ≡ Some d → (k ≢ key) × (get f.books k ≡ Some d)
     was k d at_d =
-        let away : k ≢ key = λ here. (let no : None ≡ Some d = sym removed.changed ∙ sym (ap (get freed.books) here) ∙ at_d in absurd cc) in
+        let away : k ≢ key = λ here.
+        (let no : None ≡ Some d = sym removed.changed ∙ sym (ap (get freed.books) here) ∙ at_d in absurd cc) in
         (away, sym (removed.others k away) ∙ at_d)
 
     -- no connection is its publisher's
     unconnected : (k : ℕ) (c : Link) → get f.connections k ≡ Some c → c.home.publisher ≢ b.publisher
     unconnected k c at_c mine =
         let named = parts.parts.names.at k c at_c in
-        let here : c.home.book ≡ key = (parts.parts.books.one_each b.publisher).one c.home.book key named.book b named.stands at
+        let here : c.home.book ≡ key =
+        (parts.parts.books.one_each b.publisher).one c.home.book key named.book b named.stands at
         (eq-eqb named.book.publisher b.publisher (named.is_its ∙ mine)) (eq-eqb b.publisher b.publisher refl) in
         let some = busy k c at_c here in
         let covered = (link-held f parts.parts k c at_c b (ap (get f.books) here ∙ at)).at some.slot in
@@ -79,7 +83,9 @@ module _ {T U : Type 0} (f : Fields T U) (parts : HasOwnedParts f) (key : ℕ) (
 
     same-lies : (k slot : ℕ) → k ≢ key → lies_at freed k slot ≡ lies_at f k slot
     same-lies k slot away =
-        (λ i. option_and_then (λ d. message_in d (elim (get_or-set_other f.contents key k None None away i) [ None ↦ [] | Some cs ↦ cs ]) slot) (removed.others k away i))
+        (λ i. option_and_then
+        (λ d. message_in d (elim (get_or-set_other f.contents key k None None away i) [ None ↦ [] | Some cs ↦ cs ])
+        slot) (removed.others k away i))
 
     -- nothing lay in the book
     lay-elsewhere : (k slot : ℕ) (m : KeptMessage T U) → lies_at f k slot ≡ Some m → k ≢ key
@@ -98,7 +104,8 @@ module _ {T U : Type 0} (f : Fields T U) (parts : HasOwnedParts f) (key : ℕ) (
     freed-keeps = record {
       back = λ k slot m e. sym (same-lies k slot (lies-elsewhere k slot m e)) ∙ e;
       forth = λ k slot n m has e. same-lies k slot (lay-elsewhere k slot m e) ∙ e;
-      number = λ k slot n has. record { book = has.book; stands = (was k has.book has.stands).1; in_use = has.in_use; number = has.number };
+      number = λ k slot n has.
+          record { book = has.book; stands = (was k has.book has.stands).1; in_use = has.in_use; number = has.number };
     }
 
     -- the book is gone
@@ -108,9 +115,13 @@ module _ {T U : Type 0} (f : Fields T U) (parts : HasOwnedParts f) (key : ℕ) (
         parts = record {
           parts = gone-parts f parts.parts key b at unused orphan.absent unconnected;
           lone = record { at = λ k slot d at_d loan. parts.lone.at k slot d (was k d at_d).1 loan };
-          owners = record { at = λ k d at_d. elim (parts.owners.at k d (was k d at_d).1) [ inl has ↦ inl has | inr gone ↦ inr gone ] };
+          owners = record {
+            at = λ k d at_d.
+                elim (parts.owners.at k d (was k d at_d).1) [ inl has ↦ inl has | inr gone ↦ inr gone ];
+          };
         };
-        state = but-channels freed (state_of (kept_of f)) (gone-state f parts.parts key b at unused orphan.absent unconnected);
+        state = but-channels freed (state_of (kept_of f))
+            (gone-state f parts.parts key b at unused orphan.absent unconnected);
         channels = has-link f.connections;
         messages = freed-keeps;
       };
@@ -124,17 +135,19 @@ module _ {T U : Type 0} (f : Fields T U) (parts : HasOwnedParts f) (key : ℕ) (
 
   -- it is settled
   settled : (new : Fields T U) → SettlesBook f key new → FreesBook f key new
-  settled new l = by (subst Outcome (let both : Some l.book ≡ Some b = sym l.stands ∙ at in let is : l.book ≡ b = cc in is) l.outcome) where
-    Outcome : Book → Type 0
-    Outcome c = (IsUnused c × (new ≡ with_book_gone f key)) ⊎ ((IsUnused c → ⊥) × (new ≡ f))
+  settled new l = by (subst Outcome
+      (let both : Some l.book ≡ Some b = sym l.stands ∙ at in let is : l.book ≡ b = cc in is) l.outcome) where
+        Outcome : Book → Type 0
+        Outcome c = (IsUnused c × (new ≡ with_book_gone f key)) ⊎ ((IsUnused c → ⊥) × (new ≡ f))
 
-    by : Outcome b → FreesBook f key new
-    by (inl all) = subst (FreesBook f key) (sym all.1) (unheld-goes (unused-book b all.0))
-    by (inr some) = subst (FreesBook f key) (sym some.1) (held-stays some.0)
+        by : Outcome b → FreesBook f key new
+        by (inl all) = subst (FreesBook f key) (sym all.1) (unheld-goes (unused-book b all.0))
+        by (inr some) = subst (FreesBook f key) (sym some.1) (held-stays some.0)
 
 -- ---- as the step reads the fields
 
-module _ {T U : Type 0} (f : Fields T U) (parts : HasOwnedParts f) (key : ℕ) (some : IsSomeAnd (get f.books key) (IsOrphan f))
+module _ {T U : Type 0} (f : Fields T U) (parts : HasOwnedParts f) (key : ℕ)
+    (some : IsSomeAnd (get f.books key) (IsOrphan f))
     (busy : (k : ℕ) (c : Link) → get f.connections k ≡ Some c → c.home.book ≡ key → IsBusy c) where
   its : (b : Book) × (get f.books key ≡ Some b) × IsOrphan f b
   its = some_is (IsOrphan f) (get f.books key) some

@@ -19,8 +19,10 @@ use Rattle.iox2_domain.proofs.lemmas.slots.RecountedLoans.{own-stays, gone-stays
 use Rattle.iox2_domain.proofs.lemmas.slots.Recounts.{OwnStays}
 use Rattle.iox2_steps.specs.Agreement.{HasOwners, HasOwnedParts, KeepsMessages}
 
-module _ {T U : Type 0} (f : Fields T U) (parts : HasOwnedParts f) (key : ℕ) (b : Book) (at : get f.books key ≡ Some b) (gone : look_up (is_publisher b.publisher) f.publishers ≡ None)
-    (holders : List ℕ) (new : Slab Link) (r : Recounts b.publisher b.holders f.connections holders new) (fewer : (slot : ℕ) → slice_index holders slot ≤ slice_index b.holders slot) where
+module _ {T U : Type 0} (f : Fields T U) (parts : HasOwnedParts f) (key : ℕ) (b : Book) (at : get f.books key ≡ Some b)
+    (gone : look_up (is_publisher b.publisher) f.publishers ≡ None)
+    (holders : List ℕ) (new : Slab Link) (r : Recounts b.publisher b.holders f.connections holders new)
+    (fewer : (slot : ℕ) → slice_index holders slot ≤ slice_index b.holders slot) where
   abbrev whole : HasParts f
   whole = parts.parts
 
@@ -36,11 +38,13 @@ module _ {T U : Type 0} (f : Fields T U) (parts : HasOwnedParts f) (key : ℕ) (
 
   owners : HasOwners with_fewer
   owners = record {
-    at = λ k e there. elim (book-was (with_connections f new r.homes) key b (with_counters b holders) at (record { publisher = refl; node = refl; numbers = refl; slots = r.slots }) k e there) [
-      | inl is ↦ subst (λ (p : ℕ). IsOwned f.publishers k p ⊎ IsGone f.next_port f.publishers p) (sym (ap (λ (c : Book). c.publisher) is.1))
-          (parts.owners.at k b (ap (get f.books) is.0 ∙ at))
-      | inr away ↦ parts.owners.at k e away.1
-    ];
+    at = λ k e there. elim (book-was (with_connections f new r.homes) key b (with_counters b holders) at
+        (record { publisher = refl; node = refl; numbers = refl; slots = r.slots }) k e there) [
+          | inl is ↦ subst (λ (p : ℕ). IsOwned f.publishers k p ⊎ IsGone f.next_port f.publishers p)
+              (sym (ap (λ (c : Book). c.publisher) is.1))
+              (parts.owners.at k b (ap (get f.books) is.0 ∙ at))
+          | inr away ↦ parts.owners.at k e away.1
+        ];
   }
 
   -- the fields agree with one another
@@ -52,7 +56,8 @@ module _ {T U : Type 0} (f : Fields T U) (parts : HasOwnedParts f) (key : ℕ) (
   }
 
   -- the machine sees the mailboxes alone
-  pub fewer-is : state_of (kept_of with_fewer) ≡ record (state_of (kept_of f)) { mailboxes = mailboxes_of (number_in_slot f.books) new }
+  pub fewer-is : state_of (kept_of with_fewer) ≡ record (state_of (kept_of f))
+      { mailboxes = mailboxes_of (number_in_slot f.books) new }
   fewer-is = fields.recounted-is f whole b.publisher key b at refl holders new r own loans
 
   -- what somebody still holds stays where it lies

@@ -8,7 +8,8 @@ use Rattle.iox2_slots.specs.SlotBook.{Book}
 use Rattle.iox2_domain.specs.Fields.{Fields}
 use Rattle.iox2_domain.specs.Ports.{PublisherFields, SubscriberFields}
 use Rattle.iox2_domain.specs.Invariant.{IsUsed, IsDomain}
-use Rattle.iox2_steps.proofs.creations.PublishersDue.{with_publishers_due, publishers_due-consistent, owned-due, gone-due}
+use Rattle.iox2_steps.proofs.creations.PublishersDue.{with_publishers_due, publishers_due-consistent, owned-due}
+use Rattle.iox2_steps.proofs.creations.PublishersDue.{gone-due}
 use Rattle.iox2_domain.proofs.lemmas.fields.ForgottenKeys.{Forgets, forgotten, forgotten-parts, owned-still, gone-still}
 use Rattle.iox2_steps.specs.Agreement.{IsOrphan, HasOwnedParts}
 
@@ -18,19 +19,24 @@ module _ {T U : Type 0} (f : Fields T U) where
   owned_parts_of sound = record {
     parts = sound.parts;
     lone = sound.lone;
-    owners = record { at = λ key b at. elim (sound.kept_books.at key b at) [ inl has ↦ inl has | inr left ↦ inr left.0 ] };
+    owners =
+        record { at = λ key b at. elim (sound.kept_books.at key b at) [ inl has ↦ inl has | inr left ↦ inr left.0 ] };
   }
 
 -- a book of a publisher that is gone is held
-pub left-held : {T U : Type 0} (f : Fields T U) → IsDomain f → (key : ℕ) (b : Book) → get f.books key ≡ Some b → IsOrphan f b → IsUsed b
+pub left-held : {T U : Type 0} (f : Fields T U) → IsDomain f → (key : ℕ) (b : Book) → get f.books key ≡ Some b
+    → IsOrphan f b → IsUsed b
 left-held f sound key b at orphan = elim (sound.kept_books.at key b at) [
   | inl has ↦ absurd (orphan.absent has.place has.publisher has.stands has.is_its)
   | inr left ↦ left.1
 ]
 
 -- where ports forget connections they agree still
-pub forgotten-owned : {T U : Type 0} (f : Fields T U) (parts : HasOwnedParts f) (publishers : List (Option PublisherFields)) (subscribers : List (Option SubscriberFields)) (connections : Slab Link)
-    (g : Forgets f publishers subscribers connections) → HasOwnedParts (forgotten f parts.parts publishers subscribers connections g)
+pub forgotten-owned : {T U : Type 0} (f : Fields T U) (parts : HasOwnedParts f)
+    (publishers : List (Option PublisherFields)) (subscribers : List (Option SubscriberFields))
+    (connections : Slab Link)
+    (g : Forgets f publishers subscribers connections)
+    → HasOwnedParts (forgotten f parts.parts publishers subscribers connections g)
 forgotten-owned f parts publishers subscribers connections g = record {
   parts = forgotten-parts f parts.parts publishers subscribers connections g;
   lone = parts.lone;

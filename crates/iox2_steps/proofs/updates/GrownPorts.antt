@@ -5,7 +5,8 @@ use Rattle.std.specs.Option.{option_map, option_map_or}
 use Rattle.iox2_domain.specs.Ports.{PublisherFields, SubscriberFields}
 use Rattle.iox2_domain.specs.Fields.{Fields}
 use Rattle.iox2_domain.specs.Invariant.{IsDomain}
-use Rattle.iox2_domain.specs.Updates.{with_sender_room, with_receiver_rooms, sender_room, receiver_room, expired_room_at}
+use Rattle.iox2_domain.specs.Updates.{with_sender_room, with_receiver_rooms, sender_room, receiver_room}
+use Rattle.iox2_domain.specs.Updates.{expired_room_at}
 use Rattle.iox2_domain.specs.Connects.{MakesRoom}
 use Rattle.iox2_domain.proofs.lemmas.containers.ChangedRecords.{changed-here}
 use Rattle.iox2_steps.proofs.updates.Grown.{grown, grown-agrees}
@@ -20,18 +21,24 @@ module _ {T U : Type 0} (f : Fields T U) (i j : ℕ) (x : PublisherFields) (y : 
     pub more_receiver_keys : y.key_room ≤ receiver_keys
     pub more_expired : y.expired_room ≤ expired
     pub sound : IsDomain (grown f i j x y keys receiver_keys expired)
-    pub publisher : get_or (grown f i j x y keys receiver_keys expired).publishers i None ≡ Some (with_sender_room keys x)
-    pub subscriber : get_or (grown f i j x y keys receiver_keys expired).subscribers j None ≡ Some (with_receiver_rooms receiver_keys expired y)
+    pub publisher : get_or (grown f i j x y keys receiver_keys expired).publishers i None ≡ Some
+        (with_sender_room keys x)
+    pub subscriber : get_or (grown f i j x y keys receiver_keys expired).subscribers j None ≡ Some
+        (with_receiver_rooms receiver_keys expired y)
     pub is : mid ≡ record (grown f i j x y keys receiver_keys expired) { connections = mid.connections }
 
-  pub has-grown : IsDomain f → get_or f.publishers i None ≡ Some x → get_or f.subscribers j None ≡ Some y → MakesRoom f i j mid → HasGrown
+  pub has-grown : IsDomain f → get_or f.publishers i None ≡ Some x → get_or f.subscribers j None ≡ Some y
+      → MakesRoom f i j mid → HasGrown
   has-grown sound at_x at_y rooms =
       let n : ℕ = sender_room mid.publishers i in
       let m : ℕ = receiver_room mid.subscribers j in
       let e : ℕ = expired_room_at mid.subscribers j in
-      let more_x : x.key_room ≤ n = subst (λ (k : ℕ). k ≤ n) (ap (λ o. option_map_or (λ (z : PublisherFields). z.key_room) o 0) at_x) rooms.sender in
-      let more_y : y.key_room ≤ m = subst (λ (k : ℕ). k ≤ m) (ap (λ o. option_map_or (λ (z : SubscriberFields). z.key_room) o 0) at_y) rooms.receiver in
-      let more_e : y.expired_room ≤ e = subst (λ (k : ℕ). k ≤ e) (ap (λ o. option_map_or (λ (z : SubscriberFields). z.expired_room) o 0) at_y) rooms.expired in
+      let more_x : x.key_room ≤ n = subst (λ (k : ℕ). k ≤ n)
+      (ap (λ o. option_map_or (λ (z : PublisherFields). z.key_room) o 0) at_x) rooms.sender in
+      let more_y : y.key_room ≤ m = subst (λ (k : ℕ). k ≤ m)
+      (ap (λ o. option_map_or (λ (z : SubscriberFields). z.key_room) o 0) at_y) rooms.receiver in
+      let more_e : y.expired_room ≤ e = subst (λ (k : ℕ). k ≤ e)
+      (ap (λ o. option_map_or (λ (z : SubscriberFields). z.expired_room) o 0) at_y) rooms.expired in
       record {
         keys = n;
         receiver_keys = m;

@@ -11,7 +11,8 @@ use Rattle.iox2_machine.specs.machine.SubscriberUpdate.{ReceiverSide, ConnectRec
 use Rattle.iox2_machine.specs.declared.degradation.DegradationAction.{DegradationAction}
 use Rattle.iox2_machine.specs.declared.errors.ConnectionFailure.{ConnectionFailure}
 
-module _ (environment : Environment) (service_id q : ℕ) (handler : Handler DegradationAction) (limit : ℕ) (has_end : ℕ → Bool)
+module _ (environment : Environment) (service_id q : ℕ) (handler : Handler DegradationAction) (limit : ℕ)
+    (has_end : ℕ → Bool)
     (place p : ℕ) (at : Option ℕ) (side : ReceiverSide) (stands : at ≡ Some p) where
   abbrev Connects : Option ℕ → Option ℕ → ReceiverSide → Option ConnectionFailure → Type 0
   Connects who end side' failure =
@@ -25,13 +26,15 @@ module _ (environment : Environment) (service_id q : ℕ) (handler : Handler Deg
       (λ mid. ConnectReceiver environment service_id q handler limit has_end mid place r side' failure))))
 
   -- an end to the publisher stays
-  pub connect-keeps : occupant side.ends place ≡ Some p → ConnectAtPlace environment service_id q handler limit has_end place at side side None
+  pub connect-keeps : occupant side.ends place ≡ Some p
+      → ConnectAtPlace environment service_id q handler limit has_end place at side side None
   connect-keeps there =
       subst (λ who. Connects who (occupant side.ends place) side None) (sym stands)
       (subst (λ end. Connects (Some p) end side None) (sym there)
       (subst (λ b. MatchBool b ((side ≡ side) × (◌≡◌ {A = Option ConnectionFailure} None None))
       (Retire environment service_id q handler limit has_end side place p side None
-      (λ mid. ConnectReceiver environment service_id q handler limit has_end mid place p side None))) (sym (eq-eqb p p refl)) (refl, refl)))
+      (λ mid. ConnectReceiver environment service_id q handler limit has_end mid place p side None)))
+      (sym (eq-eqb p p refl)) (refl, refl)))
 
   -- where there is no end one is made
   pub connect-makes : (side' : ReceiverSide) (failure : Option ConnectionFailure) → occupant side.ends place ≡ None

@@ -8,7 +8,9 @@ returns-clause-first g c = λ publisher value others all.
     let left = received.later publisher (value ∷ []) others all in (
       c.payload-received.ensures.same value (received.first publisher (value ∷ []) others all),
       record {
-        all = ap (λ (f : Subscriber → List (List ℕ)). f c.args.subscriber.now) c.release.ensures.leaves.waits.all ∙ left.all;
-        from = ap (λ (f : ℕ → Subscriber → List (List ℕ)). f publisher c.args.subscriber.now) c.release.ensures.leaves.waits.from ∙ left.from;
+        all = ap (λ (f : Subscriber → List (List ℕ)). f c.args.subscriber.now) c.release.ensures.leaves.waits.all
+            ∙ left.all;
+        from = ap (λ (f : ℕ → Subscriber → List (List ℕ)). f publisher c.args.subscriber.now)
+            c.release.ensures.leaves.waits.from ∙ left.from;
       },
     )

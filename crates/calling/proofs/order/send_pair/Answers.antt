@@ -9,7 +9,9 @@ returns-clause-both g c =
     let subscriber = c.args.subscriber.now in
     let never = c.requires.publisher.never_waits in
     let room : 2 ≤ buffer_size_of subscriber = c.requires.room in
-    let first = c.in_ok-send_copy.ensures.arrives subscriber c.requires.drained c.requires.connected (c.in_ok-send_copy.ensures.delivered never) in
-    c.in_ok-send_copy-2.ensures.joins subscriber ((c.args.earlier ∷ []) ∷ []) first (c.in_ok-send_copy.ensures.stays.buffers subscriber c.requires.buffer) (omega (arith, room))
+    let first = c.in_ok-send_copy.ensures.arrives subscriber c.requires.drained c.requires.connected
+    (c.in_ok-send_copy.ensures.delivered never) in
+    c.in_ok-send_copy-2.ensures.joins subscriber ((c.args.earlier ∷ []) ∷ []) first
+    (c.in_ok-send_copy.ensures.stays.buffers subscriber c.requires.buffer) (omega (arith, room))
     (c.in_ok-send_copy.ensures.up_to_date.connections publisher.id subscriber c.requires.connected)
     (c.in_ok-send_copy-2.ensures.delivered (c.in_ok-send_copy.ensures.stays.never_wait (publisher_key publisher) never))

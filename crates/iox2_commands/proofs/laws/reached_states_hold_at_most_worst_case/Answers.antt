@@ -5,4 +5,5 @@ use Rattle.iox2_commands.specs.Runs.{any_defaults}
 use Rattle.iox2_commands.proofs.laws.reached_states_hold_at_most_worst_case.Goals as goal
 
 pub returns : goal.returns
-returns g c = λ may_refuse_memory. reached_states_hold_at_most_worst_case (cond may_refuse_memory fixed_handlers ample_memory) any_defaults
+returns g c = λ may_refuse_memory.
+    reached_states_hold_at_most_worst_case (cond may_refuse_memory fixed_handlers ample_memory) any_defaults

@@ -4,10 +4,14 @@ use Rattle.iox2_connections.proofs.drops.drop_waiting.Goals as goal
 
 pub release-requires : goal.release-requires
 release-requires c =
-    let in_use = dropped-in_use c.loop-slot.book.holders c.in-Some.slot c.loop-slot.connection c.drop_first.new.self c.loop-slot.invariant.held (loses-first c.in-Some.slot c.loop-slot.connection c.drop_first.new.self c.in-Some.ensures.drops) in
+    let in_use = dropped-in_use c.loop-slot.book.holders c.in-Some.slot c.loop-slot.connection c.drop_first.new.self
+    c.loop-slot.invariant.held
+    (loses-first c.in-Some.slot c.loop-slot.connection c.drop_first.new.self c.in-Some.ensures.drops) in
     record { in_bounds = in_range _ _ in_use; in_use = in_use }
 
 pub loop-slot-preserved : goal.loop-slot-preserved
 loop-slot-preserved c =
-    rw c.release.ensures.released (drops-next c.args.book.now c.loop-slot.book c.in-Some.slot c.args.connection.now c.loop-slot.connection c.drop_first.new.self
-    c.loop-slot.invariant (loses-first c.in-Some.slot c.loop-slot.connection c.drop_first.new.self c.in-Some.ensures.drops))
+    rw c.release.ensures.released (drops-next c.args.book.now c.loop-slot.book c.in-Some.slot c.args.connection.now
+    c.loop-slot.connection c.drop_first.new.self
+    c.loop-slot.invariant
+    (loses-first c.in-Some.slot c.loop-slot.connection c.drop_first.new.self c.in-Some.ensures.drops))

@@ -8,5 +8,6 @@ abbrev pub invariant-loop-place : goal.invariant-loop-place
 invariant-loop-place l = record {
   same : l.connections ≡ l.fn.connections;
   none : is_ready l.found ≡ false;
-  whole : first_found (search l.fn.connections (map Some l.expired)) (search l.fn.connections l.keys) ≡ first_found l.found (search l.fn.connections (drop l.place l.keys));
+  whole : first_found (search l.fn.connections (map Some l.expired))
+      (search l.fn.connections l.keys) ≡ first_found l.found (search l.fn.connections (drop l.place l.keys));
 }

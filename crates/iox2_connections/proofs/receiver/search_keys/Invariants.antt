@@ -7,5 +7,6 @@ use Rattle.iox2_connections.proofs.receiver.search_keys.Given as goal
 abbrev pub invariant-loop-index : goal.invariant-loop-index
 invariant-loop-index g l = record {
   none : is_ready l.found ≡ false;
-  whole : search l.connections (map g.K.ListedKey.key_of l.keys) ≡ first_found l.found (search l.connections (drop l.index (map g.K.ListedKey.key_of l.keys)));
+  whole : search l.connections (map g.K.ListedKey.key_of l.keys) ≡ first_found l.found
+      (search l.connections (drop l.index (map g.K.ListedKey.key_of l.keys)));
 }

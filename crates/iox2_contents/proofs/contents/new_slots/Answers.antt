@@ -6,7 +6,8 @@ use Rattle.iox2_contents.proofs.contents.new_slots.Goals as goal
 
 pub loop-init : goal.loop-init
 loop-init g c = record {
-  new = rw c.in_ok-contents.ensures.items (All-nil (IsNew g.U.Default.is_default c.args.room c.args.in_lists c.args.lists));
+  new = rw c.in_ok-contents.ensures.items
+      (All-nil (IsNew g.U.Default.is_default c.args.room c.args.in_lists c.args.lists));
   count = rw c.in_ok-contents.ensures.items refl;
   len = c.in_ok-contents.ensures.len;
   capacity = c.in_ok-contents.ensures.exact;
@@ -14,7 +15,9 @@ loop-init g c = record {
 
 pub loop-preserved : goal.loop-preserved
 loop-preserved g c = record {
-  new = rw c.push_reserved.ensures.items (All-push (IsNew g.U.Default.is_default c.args.room c.args.in_lists c.args.lists) _ _ c.loop.invariant.new c.in_ok-new.ensures);
+  new = rw c.push_reserved.ensures.items
+      (All-push (IsNew g.U.Default.is_default c.args.room c.args.in_lists c.args.lists) _ _ c.loop.invariant.new
+      c.in_ok-new.ensures);
   count = rw (c.push_reserved.ensures.items, length_push, c.loop.invariant.count) refl;
   len = omega arith;
   capacity = c.push_reserved.ensures.capacity ∙ c.loop.invariant.capacity;

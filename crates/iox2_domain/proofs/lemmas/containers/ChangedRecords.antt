@@ -1,5 +1,6 @@
 -- A record changes at its place, and keeps its id.
-use Rattle.std.proofs.Common.{◌≡◌, ◌≢◌, ℕ, zero, suc, List, [], ◌∷◌, map, get_or, slice_set, Bool, true, false, cond, eqb, refl, ap, sym, ◌∙◌, inl, inr, ◌⊎◌, arith}
+use Rattle.std.proofs.Common.{◌≡◌, ◌≢◌, ℕ, zero, suc, List, [], ◌∷◌, map, get_or, slice_set, Bool, true, false, cond}
+use Rattle.std.proofs.Common.{eqb, refl, ap, sym, ◌∙◌, inl, inr, ◌⊎◌, arith}
 use Rattle.std.proofs.lemmas.Bool.{cases_eq}
 use Rattle.std.proofs.lemmas.List.{get_or-set_same, get_or-set_other}
 use Rattle.std.specs.declared.option.Option.{Option}
@@ -21,10 +22,12 @@ module _ {A : Type 0} (xs : List (Option A)) (i : ℕ) (x x' : A) (at : get_or x
   changed-others k away = get_or-set_other xs i k (Some x') None away
 
   -- who stands somewhere is the changed one, or stood there before
-  pub changed-stood : (k : ℕ) (y : A) → get_or (slice_set xs i (Some x')) k None ≡ Some y → ((k ≡ i) × (y ≡ x')) ⊎ (get_or xs k None ≡ Some y)
+  pub changed-stood : (k : ℕ) (y : A) → get_or (slice_set xs i (Some x')) k None ≡ Some y
+      → ((k ≡ i) × (y ≡ x')) ⊎ (get_or xs k None ≡ Some y)
   changed-stood k y at_y = elim (cases_eq k i) [
     | inl here ↦
-        let there : get_or (slice_set xs i (Some x')) i None ≡ Some y = sym (ap (λ (n : ℕ). get_or (slice_set xs i (Some x')) n None) here) ∙ at_y in
+        let there : get_or (slice_set xs i (Some x')) i None ≡ Some y =
+        sym (ap (λ (n : ℕ). get_or (slice_set xs i (Some x')) n None) here) ∙ at_y in
         let same : Some x' ≡ Some y = sym changed-here ∙ there in
         let is : y ≡ x' = cc in
         inl (here, is)
@@ -32,7 +35,8 @@ module _ {A : Type 0} (xs : List (Option A)) (i : ℕ) (x x' : A) (at : get_or x
   ]
 
   -- who stood somewhere is the one that changed, or still stands there
-  pub changed-still : (k : ℕ) (y : A) → get_or xs k None ≡ Some y → ((k ≡ i) × (y ≡ x)) ⊎ (get_or (slice_set xs i (Some x')) k None ≡ Some y)
+  pub changed-still : (k : ℕ) (y : A) → get_or xs k None ≡ Some y
+      → ((k ≡ i) × (y ≡ x)) ⊎ (get_or (slice_set xs i (Some x')) k None ≡ Some y)
   changed-still k y at_y = elim (cases_eq k i) [
     | inl here ↦
         let there : get_or xs i None ≡ Some y = sym (ap (λ (n : ℕ). get_or xs n None) here) ∙ at_y in
@@ -61,13 +65,15 @@ module _ {A : Type 0} (xs : List (Option A)) (i : ℕ) (x x' : A) (at : get_or x
     ];
   }
 
-module _ {A : Type 0} (ns : List (Option (Named A))) (i : ℕ) (n n' : Named A) (at : get_or ns i None ≡ Some n) (same : n'.id ≡ n.id) where
+module _ {A : Type 0} (ns : List (Option (Named A))) (i : ℕ) (n n' : Named A) (at : get_or ns i None ≡ Some n)
+    (same : n'.id ≡ n.id) where
   -- ids stay where they are
   pub changed-ids : ids (slice_set ns i (Some n')) ≡ ids ns
   changed-ids = by ns i at where
     by : (ms : List (Option (Named A))) (k : ℕ) → get_or ms k None ≡ Some n → ids (slice_set ms k (Some n')) ≡ ids ms
     by [] k e = refl
-    by (m ∷ ms) zero e = (λ j. Some (same j) ∷ ids ms) ∙ ap (λ (o : Option (Named A)). option_map (λ (y : Named A). y.id) o ∷ ids ms) (sym e)
+    by (m ∷ ms) zero e = (λ j. Some (same j) ∷ ids ms)
+        ∙ ap (λ (o : Option (Named A)). option_map (λ (y : Named A). y.id) o ∷ ids ms) (sym e)
     by (m ∷ ms) (suc k) e = ap (λ zs. option_map (λ (y : Named A). y.id) m ∷ zs) (by ms k e)
 
   -- the ports by id, with the changed one
@@ -90,7 +96,8 @@ module _ {A : Type 0} (ns : List (Option (Named A))) (i : ℕ) (n n' : Named A) 
       by false b e o = rw (sym e) refl
 
 -- views that agree wherever a record stands
-pub map-agrees : {A B : Type 0} (f g : A → B) (xs : List (Option A)) → ((i : ℕ) (x : A) → get_or xs i None ≡ Some x → f x ≡ g x)
+pub map-agrees : {A B : Type 0} (f g : A → B) (xs : List (Option A))
+    → ((i : ℕ) (x : A) → get_or xs i None ≡ Some x → f x ≡ g x)
     → map (option_map f) xs ≡ map (option_map g) xs
 map-agrees f g [] same = refl
 map-agrees f g (None ∷ xs) same = ap (λ ys. None ∷ ys) (map-agrees f g xs (λ i x at. same (suc i) x at))
@@ -102,4 +109,5 @@ pub ends-agree : {B : Type 0} (f g : Option ℕ → B) → f None ≡ g None →
     → ((i key : ℕ) → get_or keys i None ≡ Some key → f (Some key) ≡ g (Some key)) → map f keys ≡ map g keys
 ends-agree f g none [] same = refl
 ends-agree f g none (None ∷ keys) same = λ i. none i ∷ ends-agree f g none keys (λ k key at. same (suc k) key at) i
-ends-agree f g none (Some key ∷ keys) same = λ i. same zero key refl i ∷ ends-agree f g none keys (λ k key at. same (suc k) key at) i
+ends-agree f g none (Some key ∷ keys) same =
+    λ i. same zero key refl i ∷ ends-agree f g none keys (λ k key at. same (suc k) key at) i

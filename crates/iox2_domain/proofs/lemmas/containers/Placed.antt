@@ -13,7 +13,8 @@ module _ {A : Type 0} (x : A) where
   placed-here (y ∷ ys) zero = refl
   placed-here (y ∷ ys) (suc place) = placed-here ys place
 
-  pub placed-others : (xs : List (Option A)) (place i : ℕ) → i ≢ place → get_or (placed xs place x) i None ≡ get_or xs i None
+  pub placed-others : (xs : List (Option A)) (place i : ℕ) → i ≢ place
+      → get_or (placed xs place x) i None ≡ get_or xs i None
   placed-others [] zero zero away = absurd (away refl)
   placed-others [] zero (suc i) away = refl
   placed-others [] (suc place) zero away = refl
@@ -27,7 +28,8 @@ module _ {A : Type 0} (x : A) where
   placed-others (y ∷ ys) (suc place) (suc i) away = placed-others ys place i (λ e. away (ap suc e))
 
   -- views are placed as their records are
-  pub map-placed : {B : Type 0} (f : A → B) (xs : List (Option A)) (place : ℕ) → map (option_map f) (placed xs place x) ≡ placed (map (option_map f) xs) place (f x)
+  pub map-placed : {B : Type 0} (f : A → B) (xs : List (Option A)) (place : ℕ)
+      → map (option_map f) (placed xs place x) ≡ placed (map (option_map f) xs) place (f x)
   map-placed f [] zero = refl
   map-placed f [] (suc place) = ap (λ ys. None ∷ ys) (map-placed f [] place)
   map-placed f (y ∷ ys) zero = refl

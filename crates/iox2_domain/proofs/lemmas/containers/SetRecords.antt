@@ -26,10 +26,12 @@ module _ {A : Type 0} (xs : List (Option A)) (i : ℕ) (x y : A) (at : get_or xs
           let b = before k w at_k is_w in
           only.one j k a.0 b.0 a.1 b.1 a.2 b.2;
     } where
-      before : (k : ℕ) (z : A) → get_or (slice_set xs i (Some y)) k None ≡ Some z → test z ≡ true → (w : A) × (get_or xs k None ≡ Some w) × (test w ≡ true)
+      before : (k : ℕ) (z : A) → get_or (slice_set xs i (Some y)) k None ≡ Some z → test z ≡ true
+          → (w : A) × (get_or xs k None ≡ Some w) × (test w ≡ true)
       before k z here is = elim (cases_eq k i) [
         | inl at_place ↦
-            let there : get_or (slice_set xs i (Some y)) i None ≡ Some z = sym (ap (λ (n : ℕ). get_or (slice_set xs i (Some y)) n None) at_place) ∙ here in
+            let there : get_or (slice_set xs i (Some y)) i None ≡ Some z =
+            sym (ap (λ (n : ℕ). get_or (slice_set xs i (Some y)) n None) at_place) ∙ here in
             let found : Some y ≡ Some z = sym set-here ∙ there in
             let is_y : test y ≡ true = cc in
             (x, rw at_place at, sym same ∙ is_y)

@@ -17,28 +17,35 @@ use Rattle.iox2_domain.specs.declared.publisher_state.BlockedDelivery.{BlockedDe
 use Rattle.iox2_domain.proofs.lemmas.fields.NamedPorts.{named-stands, occupant-led}
 
 -- what a publisher's end leads to, by its key
-pub occupant-sender_ends : (connections : Slab Link) (keys : List (Option ℕ)) (i : ℕ) → occupant (sender_ends connections keys) i ≡ subscriber_of_key connections (get_or keys i None)
+pub occupant-sender_ends : (connections : Slab Link) (keys : List (Option ℕ)) (i : ℕ)
+    → occupant (sender_ends connections keys) i ≡ subscriber_of_key connections (get_or keys i None)
 occupant-sender_ends = occupant-led (λ (c : Link). c.home.subscriber)
 
 module _ {T U : Type 0} (f : Fields T U) (parts : HasParts f) where
   -- a publisher that stands somewhere is in the state
   pub publisher-stands : (i : ℕ) (x : PublisherFields) → get_or f.publishers i None ≡ Some x
       → (state_of (kept_of f)).publishers x.id ≡ Some ((publisher_of f.books f.connections x).port)
-  publisher-stands i x at = named-stands (publisher_of f.books f.connections) x.id f.publishers (parts.publisher_ids x.id) i x at refl
+  publisher-stands i x at =
+      named-stands (publisher_of f.books f.connections) x.id f.publishers (parts.publisher_ids x.id) i x at refl
 
   -- no delivery of a publisher is blocked that isn't so in the state
-  pub free-of : (p i : ℕ) (x : PublisherFields) → get_or f.publishers i None ≡ Some x → x.id ≡ p → is_blocked (state_of (kept_of f)) p ≡ false → x.blocked ≡ None
+  pub free-of : (p i : ℕ) (x : PublisherFields) → get_or f.publishers i None ≡ Some x → x.id ≡ p
+      → is_blocked (state_of (kept_of f)) p ≡ false → x.blocked ≡ None
   free-of p i x at is nothing = by x.blocked
-      (sym (ap (λ o. option_map_or (λ (v : Publisher). is_some v.blocked) o false) (ap (state_of (kept_of f)).publishers (sym is) ∙ publisher-stands i x at)) ∙ nothing)
+      (sym (ap (λ o. option_map_or (λ (v : Publisher). is_some v.blocked) o false)
+      (ap (state_of (kept_of f)).publishers (sym is) ∙ publisher-stands i x at)) ∙ nothing)
     where
-      by : (o : Option BlockedDelivery) → is_some (option_map (blocked_send (number_in_slot f.books x.id) (sender_ends f.connections x.keys)) o) ≡ false → o ≡ None
+      by : (o : Option BlockedDelivery)
+          → is_some (option_map (blocked_send (number_in_slot f.books x.id) (sender_ends f.connections x.keys)) o)
+          ≡ false → o ≡ None
       by None e = refl
       by (Some b) e = absurd cc
 
   -- a subscriber that stands somewhere is in the state
   pub subscriber-stands : (i : ℕ) (y : SubscriberFields) → get_or f.subscribers i None ≡ Some y
       → (state_of (kept_of f)).subscribers y.id ≡ Some ((subscriber_of f.books f.connections y).port)
-  subscriber-stands i y at = named-stands (subscriber_of f.books f.connections) y.id f.subscribers (parts.subscriber_ids y.id) i y at refl
+  subscriber-stands i y at =
+      named-stands (subscriber_of f.books f.connections) y.id f.subscribers (parts.subscriber_ids y.id) i y at refl
 
 module _ {T U : Type 0} (f : Fields T U) (sound : IsDomain f) where
   -- the subscriber of a connection was made before
@@ -51,8 +58,12 @@ module _ {T U : Type 0} (f : Fields T U) (sound : IsDomain f) where
         occupant-sender_ends f.connections x.keys c.home.subscriber_place
         ∙ ap (subscriber_of_key f.connections) has.has
         ∙ ap (option_map (λ (d : Link). d.home.subscriber)) at in
-        (sound.well_formed.publishers x.id _ (publisher-stands f sound.parts c.home.publisher_place x has.stands)).ends_known c.home.subscriber (c.home.subscriber_place, leads)
+        (sound.well_formed.publishers x.id _
+        (publisher-stands f sound.parts c.home.publisher_place x has.stands)).ends_known c.home.subscriber
+        (c.home.subscriber_place, leads)
     by (inr has) =
         let y = has.subscriber in
-        let low : y.id < f.next_port = (sound.well_formed.subscribers y.id _ (subscriber-stands f sound.parts c.home.subscriber_place y has.stands)).is_known in
+        let low : y.id < f.next_port =
+        (sound.well_formed.subscribers y.id _
+        (subscriber-stands f sound.parts c.home.subscriber_place y has.stands)).is_known in
         subst (λ (q : ℕ). q < f.next_port) has.is_its low

@@ -21,7 +21,8 @@ names-books old new connections keeps names = record {
 }
 
 -- connections that stay between their ports name the same books
-pub names-still : (books : Slab Book) (old new : Slab Link) → SameHomes old new → NamesBooks books old → NamesBooks books new
+pub names-still : (books : Slab Book) (old new : Slab Link) → SameHomes old new → NamesBooks books old
+    → NamesBooks books new
 names-still books old new same names = record {
   at = λ key c at.
       let before = was old new key c same at in

@@ -35,13 +35,15 @@ module _ {T U : Type 0} (f : Fields T U) where
   as-many x = length-map x.loans (number_in_slot f.books x.id)
 
   -- where it may lend a slot more it may there
-  pub few-numbers : (x : PublisherFields) → length x.loans < x.max_loaned_samples → length (seen_publisher x).loans < (seen_publisher x).max_loaned_samples
+  pub few-numbers : (x : PublisherFields) → length x.loans < x.max_loaned_samples
+      → length (seen_publisher x).loans < (seen_publisher x).max_loaned_samples
   few-numbers x few = let e = as-many x in omega (arith, e, few)
 
 -- ---- ports by their ids
 
 -- an id in a list of places is that of whoever stands there
-pub occupant-ids : {A : Type 0} (ns : List (Option (Named A))) (i : ℕ) → occupant (ids ns) i ≡ option_map (λ (n : Named A). n.id) (get_or ns i None)
+pub occupant-ids : {A : Type 0} (ns : List (Option (Named A))) (i : ℕ)
+    → occupant (ids ns) i ≡ option_map (λ (n : Named A). n.id) (get_or ns i None)
 occupant-ids [] zero = refl
 occupant-ids [] (suc i) = refl
 occupant-ids (n ∷ ns) zero = refl
@@ -49,20 +51,27 @@ occupant-ids (n ∷ ns) (suc i) = occupant-ids ns i
 
 module _ {A P : Type 0} (see : A → Named P) (id : ℕ) (xs : List (Option A)) where
   -- the port under an id is that of the record that is found
-  named-is : port_named id (map (option_map see) xs) ≡ option_map (λ (x : A). (see x).port) (look_up (λ (x : A). is_named id (see x)) xs)
-  named-is = ap (option_map (λ (n : Named P). n.port)) (look_up-map (is_named id) see xs) ∙ through (look_up (λ (x : A). is_named id (see x)) xs) where
-    through : (o : Option A) → option_map (λ (n : Named P). n.port) (option_map see o) ≡ option_map (λ (x : A). (see x).port) o
-    through None = refl
-    through (Some x) = refl
+  named-is : port_named id (map (option_map see) xs) ≡ option_map (λ (x : A). (see x).port)
+      (look_up (λ (x : A). is_named id (see x)) xs)
+  named-is = ap (option_map (λ (n : Named P). n.port)) (look_up-map (is_named id) see xs)
+      ∙ through (look_up (λ (x : A). is_named id (see x)) xs) where
+        through : (o : Option A)
+            → option_map (λ (n : Named P). n.port) (option_map see o) ≡ option_map (λ (x : A). (see x).port) o
+        through None = refl
+        through (Some x) = refl
 
   -- a record that stands somewhere is seen under its id
-  pub named-stands : IsOnly (λ (x : A). is_named id (see x)) xs → (i : ℕ) (x : A) → get_or xs i None ≡ Some x → (see x).id ≡ id → port_named id (map (option_map see) xs) ≡ Some ((see x).port)
-  named-stands only i x at is = named-is ∙ ap (option_map (λ (z : A). (see z).port)) (look_up-found (λ (z : A). is_named id (see z)) xs i x only at (eq-eqb (see x).id id is))
+  pub named-stands : IsOnly (λ (x : A). is_named id (see x)) xs → (i : ℕ) (x : A) → get_or xs i None ≡ Some x
+      → (see x).id ≡ id → port_named id (map (option_map see) xs) ≡ Some ((see x).port)
+  named-stands only i x at is = named-is ∙ ap (option_map (λ (z : A). (see z).port))
+      (look_up-found (λ (z : A). is_named id (see z)) xs i x only at (eq-eqb (see x).id id is))
 
   -- a port that is seen is a record that stands somewhere
-  pub named-there : (y : P) → port_named id (map (option_map see) xs) ≡ Some y → (i : ℕ) × (x : A) × (get_or xs i None ≡ Some x) × ((see x).id ≡ id) × (y ≡ (see x).port)
+  pub named-there : (y : P) → port_named id (map (option_map see) xs) ≡ Some y
+      → (i : ℕ) × (x : A) × (get_or xs i None ≡ Some x) × ((see x).id ≡ id) × (y ≡ (see x).port)
   named-there y e = by (look_up (λ (x : A). is_named id (see x)) xs) refl (sym named-is ∙ e) where
-    by : (o : Option A) → look_up (λ (x : A). is_named id (see x)) xs ≡ o → option_map (λ (x : A). (see x).port) o ≡ Some y
+    by : (o : Option A) → look_up (λ (x : A). is_named id (see x)) xs ≡ o
+        → option_map (λ (x : A). (see x).port) o ≡ Some y
         → (i : ℕ) × (x : A) × (get_or xs i None ≡ Some x) × ((see x).id ≡ id) × (y ≡ (see x).port)
     by None is h = absurd cc
     by (Some x) is h =
@@ -71,7 +80,8 @@ module _ {A P : Type 0} (see : A → Named P) (id : ℕ) (xs : List (Option A)) 
         (there.0, x, there.1, eqb-true (see x).id id there.2, cc)
 
   -- none is seen where no record is found
-  pub named-nowhere : look_up (λ (x : A). is_named id (see x)) xs ≡ None → port_named id (map (option_map see) xs) ≡ None
+  pub named-nowhere : look_up (λ (x : A). is_named id (see x)) xs ≡ None
+      → port_named id (map (option_map see) xs) ≡ None
   named-nowhere none = named-is ∙ ap (option_map (λ (x : A). (see x).port)) none
 
   -- and no record has the id of a port that isn't seen
@@ -82,11 +92,14 @@ module _ {A P : Type 0} (see : A → Named P) (id : ℕ) (xs : List (Option A)) 
     by (Some x) e = absurd cc
 
 -- the id at a place is that of the record there
-pub named-at : {A P : Type 0} (see : A → Named P) (xs : List (Option A)) (i : ℕ) → occupant (ids (map (option_map see) xs)) i ≡ option_map (λ (x : A). (see x).id) (get_or xs i None)
-named-at {A} {P} see xs i = occupant-ids (map (option_map see) xs) i ∙ ap (option_map (λ (n : Named P). n.id)) (map-at see xs i) ∙ through (get_or xs i None) where
-  through : (o : Option A) → option_map (λ (n : Named P). n.id) (option_map see o) ≡ option_map (λ (x : A). (see x).id) o
-  through None = refl
-  through (Some x) = refl
+pub named-at : {A P : Type 0} (see : A → Named P) (xs : List (Option A)) (i : ℕ)
+    → occupant (ids (map (option_map see) xs)) i ≡ option_map (λ (x : A). (see x).id) (get_or xs i None)
+named-at {A} {P} see xs i = occupant-ids (map (option_map see) xs) i
+    ∙ ap (option_map (λ (n : Named P). n.id)) (map-at see xs i) ∙ through (get_or xs i None) where
+      through : (o : Option A)
+          → option_map (λ (n : Named P). n.id) (option_map see o) ≡ option_map (λ (x : A). (see x).id) o
+      through None = refl
+      through (Some x) = refl
 
 -- ---- ends by their keys
 
@@ -106,7 +119,8 @@ module _ (read : Link → ℕ) (connections : Slab Link) where
   pub end-leads-through : (keys : List (Option ℕ)) (i id : ℕ) → occupant (map led_by keys) i ≡ Some id
       → (key : ℕ) × (c : Link) × (get_or keys i None ≡ Some key) × (get connections key ≡ Some c) × (read c ≡ id)
   end-leads-through keys i id at = by (get_or keys i None) refl (sym (occupant-led keys i) ∙ at) where
-    by : (o : Option ℕ) → get_or keys i None ≡ o → led_by o ≡ Some id → (key : ℕ) × (c : Link) × (get_or keys i None ≡ Some key) × (get connections key ≡ Some c) × (read c ≡ id)
+    by : (o : Option ℕ) → get_or keys i None ≡ o → led_by o ≡ Some id
+        → (key : ℕ) × (c : Link) × (get_or keys i None ≡ Some key) × (get connections key ≡ Some c) × (read c ≡ id)
     by None e h = absurd cc
     by (Some key) e h = through (get connections key) refl h where
       through : (o : Option Link) → get connections key ≡ o → option_map read o ≡ Some id

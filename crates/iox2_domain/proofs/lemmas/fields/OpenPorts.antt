@@ -19,30 +19,40 @@ module _ {T U : Type 0} (f : Fields T U) (id : ℕ) where
   -- a publisher that stands nowhere isn't live
   pub absent-publisher : look_up (is_publisher id) f.publishers ≡ None → HoldsPublisher (state_of (kept_of f)) id → ⊥
   absent-publisher none has =
-      let clash : None ≡ Some has.0 = sym (named-nowhere (publisher_of f.books f.connections) id f.publishers none) ∙ has.1 in
+      let clash : None ≡ Some has.0 =
+      sym (named-nowhere (publisher_of f.books f.connections) id f.publishers none) ∙ has.1 in
       absurd cc
 
   -- one that stands somewhere is
-  pub present-publisher : IsDomain f → (i : ℕ) (x : PublisherFields) → get_or f.publishers i None ≡ Some x → x.id ≡ id → HoldsPublisher (state_of (kept_of f)) id
-  present-publisher sound i x at is =
-      ((publisher_of f.books f.connections x).port, subst (λ (p : ℕ). (state_of (kept_of f)).publishers p ≡ Some ((publisher_of f.books f.connections x).port)) is (publisher-stands f sound.parts i x at))
+  pub present-publisher : IsDomain f → (i : ℕ) (x : PublisherFields) → get_or f.publishers i None ≡ Some x → x.id ≡ id
+      → HoldsPublisher (state_of (kept_of f)) id
+  present-publisher sound i x at is = (
+    (publisher_of f.books f.connections x).port,
+    subst (λ (p : ℕ). (state_of (kept_of f)).publishers p ≡ Some ((publisher_of f.books f.connections x).port)) is
+        (publisher-stands f sound.parts i x at),
+  )
 
   -- so a search tells which
   pub publisher-live : IsDomain f → (found : Option ℕ)
-      → MatchOption found (look_up (is_publisher id) f.publishers ≡ None) (λ i. (x : PublisherFields) × (get_or f.publishers i None ≡ Some x) × (x.id ≡ id))
+      → MatchOption found (look_up (is_publisher id) f.publishers ≡ None)
+      (λ i. (x : PublisherFields) × (get_or f.publishers i None ≡ Some x) × (x.id ≡ id))
       → IsTrue (is_some found) ↔ HoldsPublisher (state_of (kept_of f)) id
   publisher-live sound None none = (λ no. absurd cc, λ has. absurd (absent-publisher none has))
   publisher-live sound (Some i) found = (λ yes. present-publisher sound i found.0 found.1 found.2, λ has. refl)
 
   -- a subscriber that stands nowhere isn't live
-  pub absent-subscriber : look_up (is_subscriber id) f.subscribers ≡ None → HoldsSubscriber (state_of (kept_of f)) id → ⊥
+  pub absent-subscriber : look_up (is_subscriber id) f.subscribers ≡ None → HoldsSubscriber (state_of (kept_of f)) id
+      → ⊥
   absent-subscriber none has =
-      let clash : None ≡ Some has.0 = sym (named-nowhere (subscriber_of f.books f.connections) id f.subscribers none) ∙ has.1 in
+      let clash : None ≡ Some has.0 =
+      sym (named-nowhere (subscriber_of f.books f.connections) id f.subscribers none) ∙ has.1 in
       absurd cc
 
-  module _ (sound : IsDomain f) (i : ℕ) (y : SubscriberFields) (at : get_or f.subscribers i None ≡ Some y) (is : y.id ≡ id) where
+  module _ (sound : IsDomain f) (i : ℕ) (y : SubscriberFields) (at : get_or f.subscribers i None ≡ Some y)
+      (is : y.id ≡ id) where
     stands : (state_of (kept_of f)).subscribers id ≡ Some ((subscriber_of f.books f.connections y).port)
-    stands = subst (λ (q : ℕ). (state_of (kept_of f)).subscribers q ≡ Some ((subscriber_of f.books f.connections y).port)) is (subscriber-stands f sound.parts i y at)
+    stands = subst (λ (q : ℕ). (state_of (kept_of f)).subscribers q ≡ Some
+        ((subscriber_of f.books f.connections y).port)) is (subscriber-stands f sound.parts i y at)
 
     -- one that stands somewhere is live where it is open
     pub open-subscriber : y.is_open ≡ true → HoldsSubscriber (state_of (kept_of f)) id
@@ -55,13 +65,15 @@ module _ {T U : Type 0} (f : Fields T U) (id : ℕ) where
         ap (λ (z : Subscriber). z.is_open) same ∙ has.2
 
 -- what is read at a place stands there
-pub read-at : {A : Type 0} (xs : List (Option A)) (i : ℕ) (o : Option A) (x y : A) → get_or xs i None ≡ Some x → o ≡ get_or xs i o → o ≡ Some y → y ≡ x
+pub read-at : {A : Type 0} (xs : List (Option A)) (i : ℕ) (o : Option A) (x y : A) → get_or xs i None ≡ Some x
+    → o ≡ get_or xs i o → o ≡ Some y → y ≡ x
 read-at xs i o x y at read is =
     let same : Some y ≡ Some x = sym is ∙ read ∙ get_or_default xs i o None (within_if_some xs i x at) ∙ at in
     cc
 
 -- whoever stands where a search found it is there
-pub found-at : {A : Type 0} (P : Type 0) (has_id : A → Type 0) (xs : List (Option A)) (found : Option ℕ) → MatchOption found P (λ i. IsSomeAnd (get_or xs i None) has_id)
+pub found-at : {A : Type 0} (P : Type 0) (has_id : A → Type 0) (xs : List (Option A)) (found : Option ℕ)
+    → MatchOption found P (λ i. IsSomeAnd (get_or xs i None) has_id)
     → MatchOption found P (λ i. (x : A) × (get_or xs i None ≡ Some x) × has_id x)
 found-at P has_id xs None none = none
 found-at {A} P has_id xs (Some i) is = by (get_or xs i None) refl is where

@@ -1,5 +1,6 @@
 -- The keys by which a subscriber knows its connections.
-use Rattle.std.proofs.Common.{◌≡◌, ℕ, zero, suc, ◌<◌, List, [], ◌∷◌, map, length, get_or, Contains, refl, ap, sym, ◌∙◌, inl, inr, ◌⊎◌, arith}
+use Rattle.std.proofs.Common.{◌≡◌, ℕ, zero, suc, ◌<◌, List, [], ◌∷◌, map, length, get_or, Contains, refl, ap, sym, ◌∙◌}
+use Rattle.std.proofs.Common.{inl, inr, ◌⊎◌, arith}
 use Rattle.std.specs.declared.option.Option.{Option}
 use Rattle.std.specs.declared.option.Option.TheVariants.{None, Some}
 use Rattle.slab.specs.Slab.{Slab, get}
@@ -31,18 +32,22 @@ listed-has (x ∷ xs) zero key at = let is : x ≡ key = cc in (zero, omega arit
 listed-has (x ∷ xs) (suc i) key at = let rest = listed-has xs i key at in (suc rest.0, omega (arith, rest.1), rest.2)
 
 -- a subscriber that has a connection knows its key
-pub known : (y : SubscriberFields) (place key : ℕ) → (get_or y.keys place None ≡ Some key) ⊎ Contains y.expired key → KnowsKey y key
+pub known : (y : SubscriberFields) (place key : ℕ) → (get_or y.keys place None ≡ Some key) ⊎ Contains y.expired key
+    → KnowsKey y key
 known y place key (inl there) = inl (place, there)
 known y place key (inr among) = inr (listed-at y.expired key among)
 
 -- a subscriber's end leads through a connection
-pub receiver-leads : (connections : Slab Link) (keys : List (Option ℕ)) (i p : ℕ) → occupant (receiver_ends connections keys) i ≡ Some p
+pub receiver-leads : (connections : Slab Link) (keys : List (Option ℕ)) (i p : ℕ)
+    → occupant (receiver_ends connections keys) i ≡ Some p
     → (key : ℕ) × (c : Link) × (get_or keys i None ≡ Some key) × (get connections key ≡ Some c) × (c.home.publisher ≡ p)
 receiver-leads = end-leads-through (λ (c : Link). c.home.publisher)
 
 -- an end to a connection's publisher is an end to the connection
-pub own-key : (connections : Slab Link) → IsApart connections → (key : ℕ) (c : Link) → get connections key ≡ Some c → (q : ℕ) → c.home.subscriber ≡ q → {most : ℕ} → (keys : List (Option ℕ))
-    → IsReceiverLinked q most connections keys → LeadsTo (receiver_ends connections keys) c.home.publisher → HasKey keys key
+pub own-key : (connections : Slab Link) → IsApart connections → (key : ℕ) (c : Link) → get connections key ≡ Some c
+    → (q : ℕ) → c.home.subscriber ≡ q → {most : ℕ} → (keys : List (Option ℕ))
+    → IsReceiverLinked q most connections keys → LeadsTo (receiver_ends connections keys) c.home.publisher
+    → HasKey keys key
 own-key connections apart key c at q mine {most} keys linked leads =
     let to = receiver-leads connections keys leads.0 c.home.publisher leads.1 in
     let own = some_is (IsReceivers q most) (get connections to.0) (linked.at leads.0 to.0 to.2) in

@@ -8,8 +8,10 @@ use Rattle.iox2_domain.specs.WarningRing.{WarningRing}
 use Rattle.iox2_domain.specs.Fields.{Fields}
 use Rattle.iox2_domain.specs.Invariant.{IsLinked}
 
-pub linked-same : {T U : Type 0} (f : Fields T U) (next_message : ℕ) (warnings : WarningRing) (books : Slab Book) (contents : List (Option (List (ContentState T U))))
-    → IsLinked f → IsLinked (record f { next_message = next_message; warnings = warnings; books = books; contents = contents })
+pub linked-same : {T U : Type 0} (f : Fields T U) (next_message : ℕ) (warnings : WarningRing) (books : Slab Book)
+    (contents : List (Option (List (ContentState T U))))
+    → IsLinked f
+    → IsLinked (record f { next_message = next_message; warnings = warnings; books = books; contents = contents })
 linked-same f next_message warnings books contents linked = record {
   senders = linked.senders;
   receivers = linked.receivers;

@@ -1,5 +1,6 @@
 -- Connections change, and none is made, goes or moves, whatever is marked: the ends of all ports stay.
-use Rattle.std.proofs.Common.{◌<◌, ◌≡◌, ℕ, length, map, get_or, refl, ap, sym, subst, ◌∙◌, inl, inr, ◌⊎◌, Option, None, Some, true}
+use Rattle.std.proofs.Common.{◌<◌, ◌≡◌, ℕ, length, map, get_or, refl, ap, sym, subst, ◌∙◌, inl, inr, ◌⊎◌, Option, None}
+use Rattle.std.proofs.Common.{Some, true}
 use Rattle.std.specs.Prelude.{IsSomeAnd, Contains, []}
 use Rattle.std.specs.Option.{option_map}
 use Rattle.slab.specs.Slab.{Slab, get}
@@ -25,14 +26,16 @@ pub record SameSeats (old new : Slab Link) : Type 0 where
 
 module _ (old new : Slab Link) (same : SameSeats old new) where
   -- what stands at a key is read through what never changes
-  fixed-at : {A : Type 0} (g : Home × ℕ × ℕ → A) (key : ℕ) → option_map (λ c. g (seat_of c)) (get new key) ≡ option_map (λ c. g (seat_of c)) (get old key)
+  fixed-at : {A : Type 0} (g : Home × ℕ × ℕ → A) (key : ℕ)
+      → option_map (λ c. g (seat_of c)) (get new key) ≡ option_map (λ c. g (seat_of c)) (get old key)
   fixed-at {A} g key = through (get new key) ∙ ap (option_map g) (same.same key) ∙ sym (through (get old key)) where
     through : (o : Option Link) → option_map (λ c. g (seat_of c)) o ≡ option_map g (option_map seat_of o)
     through None = refl
     through (Some c) = refl
 
   -- each key leads to the same port
-  seated-led : (g : Home × ℕ × ℕ → ℕ) → led_by (λ (c : Link). g (seat_of c)) new ≡ led_by (λ (c : Link). g (seat_of c)) old
+  seated-led : (g : Home × ℕ × ℕ → ℕ)
+      → led_by (λ (c : Link). g (seat_of c)) new ≡ led_by (λ (c : Link). g (seat_of c)) old
   seated-led g = fun_ext by where
     by : (key : Option ℕ) → led_by (λ (c : Link). g (seat_of c)) new key ≡ led_by (λ (c : Link). g (seat_of c)) old key
     by None = refl
@@ -45,9 +48,11 @@ module _ (old new : Slab Link) (same : SameSeats old new) where
   seated-subscriber_of_key = seated-led (λ t. t.0.subscriber)
 
   -- a connection that stands stood before, between the same ports
-  pub seat-was : (key : ℕ) (d : Link) → get new key ≡ Some d → (c : Link) × (get old key ≡ Some c) × (seat_of c ≡ seat_of d)
+  pub seat-was : (key : ℕ) (d : Link) → get new key ≡ Some d
+      → (c : Link) × (get old key ≡ Some c) × (seat_of c ≡ seat_of d)
   seat-was key d at = by (get old key) refl (rw at at (same.same key)) where
-    by : (o : Option Link) → get old key ≡ o → Some (seat_of d) ≡ option_map seat_of o → (c : Link) × (get old key ≡ Some c) × (seat_of c ≡ seat_of d)
+    by : (o : Option Link) → get old key ≡ o → Some (seat_of d) ≡ option_map seat_of o
+        → (c : Link) × (get old key ≡ Some c) × (seat_of c ≡ seat_of d)
     by None e h = absurd cc
     by (Some c) e h = (c, e, let g : seat_of c ≡ seat_of d = cc in g)
 
@@ -60,7 +65,8 @@ module _ {T U : Type 0} (f : Fields T U) (new : Slab Link) (same : SameSeats f.c
   senders-seated = λ i x. record (publisher_of f.books f.connections x) {
     port = record (publisher_of f.books f.connections x).port {
       ends = map (seated-subscriber_of_key f.connections new same i) x.keys;
-      blocked = option_map (blocked_send (number_in_slot f.books x.id) (map (seated-subscriber_of_key f.connections new same i) x.keys)) x.blocked;
+      blocked = option_map (blocked_send (number_in_slot f.books x.id)
+          (map (seated-subscriber_of_key f.connections new same i) x.keys)) x.blocked;
     };
   }
 
@@ -73,7 +79,8 @@ module _ {T U : Type 0} (f : Fields T U) (new : Slab Link) (same : SameSeats f.c
     };
   }
 
-  pub sender-seated : (key : ℕ) (c d : Link) → seat_of c ≡ seat_of d → SenderHas f.publishers key c → SenderHas f.publishers key d
+  pub sender-seated : (key : ℕ) (c d : Link) → seat_of c ≡ seat_of d → SenderHas f.publishers key c
+      → SenderHas f.publishers key d
   sender-seated key c d fixed has =
       let home : c.home ≡ d.home = ap (λ (t : Home × ℕ × ℕ). t.0) fixed in
       record {
@@ -83,42 +90,55 @@ module _ {T U : Type 0} (f : Fields T U) (new : Slab Link) (same : SameSeats f.c
         has = subst (λ (h : Home). get_or has.publisher.keys h.subscriber_place None ≡ Some key) home has.has;
       }
 
-  receiver-seated : (key : ℕ) (c d : Link) → seat_of c ≡ seat_of d → ReceiverHas f.subscribers key c → ReceiverHas f.subscribers key d
+  receiver-seated : (key : ℕ) (c d : Link) → seat_of c ≡ seat_of d → ReceiverHas f.subscribers key c
+      → ReceiverHas f.subscribers key d
   receiver-seated key c d fixed has =
       let home : c.home ≡ d.home = ap (λ (t : Home × ℕ × ℕ). t.0) fixed in
       record {
         subscriber = has.subscriber;
-        stands = subst (λ (h : Home). get_or f.subscribers h.subscriber_place None ≡ Some has.subscriber) home has.stands;
+        stands =
+            subst (λ (h : Home). get_or f.subscribers h.subscriber_place None ≡ Some has.subscriber) home has.stands;
         is_its = subst (λ (h : Home). has.subscriber.id ≡ h.subscriber) home has.is_its;
-        has = subst (λ (h : Home). (get_or has.subscriber.keys h.publisher_place None ≡ Some key) ⊎ Contains has.subscriber.expired key) home has.has;
+        has = subst (λ (h : Home). (get_or has.subscriber.keys h.publisher_place None ≡ Some key)
+            ⊎ Contains has.subscriber.expired key) home has.has;
       }
 
-  pub open-seated : (c d : Link) → seat_of c ≡ seat_of d → HasOpenReceiver f.subscribers c → HasOpenReceiver f.subscribers d
+  pub open-seated : (c d : Link) → seat_of c ≡ seat_of d → HasOpenReceiver f.subscribers c
+      → HasOpenReceiver f.subscribers d
   open-seated c d fixed has =
       let home : c.home ≡ d.home = ap (λ (t : Home × ℕ × ℕ). t.0) fixed in
       record {
         subscriber = has.subscriber;
-        stands = subst (λ (h : Home). get_or f.subscribers h.subscriber_place None ≡ Some has.subscriber) home has.stands;
+        stands =
+            subst (λ (h : Home). get_or f.subscribers h.subscriber_place None ≡ Some has.subscriber) home has.stands;
         is_its = subst (λ (h : Home). has.subscriber.id ≡ h.subscriber) home has.is_its;
         is_open = has.is_open;
       }
 
-  -- ports and connections still know of each other, where each connection has as many channels as before, each slot that was
-  -- given back has its publisher, and marks say what is so
-  pub linked-seated : IsLinked f → ((key : ℕ) (c : Link) → get new key ≡ Some c → length c.channels ≡ channel_count f.config)
+  -- ports and connections still know of each other, where each connection has as many channels as before, each slot
+  -- that was given back has its publisher, and marks say what is so
+  pub linked-seated : IsLinked f
+      → ((key : ℕ) (c : Link) → get new key ≡ Some c → length c.channels ≡ channel_count f.config)
       → ((key : ℕ) (c : Link) → get new key ≡ Some c → SenderHas f.publishers key c ⊎ (c.returned ≡ []))
-      → ((key : ℕ) (c : Link) → get new key ≡ Some c → c.is_open ≡ true → IsBetweenOpen f.publishers f.subscribers key c) → IsLinked with_connections
+      → ((key : ℕ) (c : Link) → get new key ≡ Some c → c.is_open ≡ true
+      → IsBetweenOpen f.publishers f.subscribers key c) → IsLinked with_connections
   linked-seated linked counts returned marked = record {
-    senders = λ i x at. record { at = λ place key at_key. sender x.id place key ((linked.senders i x at).at place key at_key) };
-    receivers = λ i y at. record { at = λ place key at_key. receiver y.id key ((linked.receivers i y at).at place key at_key) };
-    expired = λ i y at. record { at = λ place key at_key. receiver y.id key ((linked.expired i y at).at place key at_key) };
+    senders = λ i x at.
+        record { at = λ place key at_key. sender x.id place key ((linked.senders i x at).at place key at_key) };
+    receivers =
+        λ i y at. record { at = λ place key at_key. receiver y.id key ((linked.receivers i y at).at place key at_key) };
+    expired =
+        λ i y at. record { at = λ place key at_key. receiver y.id key ((linked.expired i y at).at place key at_key) };
     ends = λ key c at. let b = before key c at in by key b.0 c b.2 (linked.ends key b.0 b.1);
     receiver_places = λ i place key y c at_y at_key at_c. let b = before key c at_c in
-        sym (ap (λ (t : Home × ℕ × ℕ). t.0.publisher_place) b.2) ∙ linked.receiver_places i place key y b.0 at_y at_key b.1;
+        sym (ap (λ (t : Home × ℕ × ℕ). t.0.publisher_place) b.2)
+        ∙ linked.receiver_places i place key y b.0 at_y at_key b.1;
     knows = record {
       at = λ key i c y at_c at_y is. let b = before key c at_c in
-          let known = linked.knows.at key i b.0 y b.1 at_y (is ∙ sym (ap (λ (t : Home × ℕ × ℕ). t.0.subscriber) b.2)) in
-          (known.0 ∙ ap (λ (t : Home × ℕ × ℕ). t.0.subscriber_place) b.2, sym (ap (λ (t : Home × ℕ × ℕ). t.1) b.2) ∙ known.1);
+          let known = linked.knows.at key i b.0 y b.1 at_y (is ∙ sym (ap (λ (t : Home × ℕ × ℕ). t.0.subscriber) b.2)) in (
+            known.0 ∙ ap (λ (t : Home × ℕ × ℕ). t.0.subscriber_place) b.2,
+            sym (ap (λ (t : Home × ℕ × ℕ). t.1) b.2) ∙ known.1,
+          );
     };
     knows_publishers = λ key i c x at_c at_x is. let b = before key c at_c in
         linked.knows_publishers key i b.0 x b.1 at_x (is ∙ sym (ap (λ (t : Home × ℕ × ℕ). t.0.publisher) b.2))
@@ -129,17 +149,21 @@ module _ {T U : Type 0} (f : Fields T U) (new : Slab Link) (same : SameSeats f.c
     receiver_rooms = λ key i c y at_c at_y is. let b = before key c at_c in
         subst (λ (n : ℕ). n < y.key_room) (ap (λ (t : Home × ℕ × ℕ). t.0.publisher_place) b.2)
         (linked.receiver_rooms key i b.0 y b.1 at_y (is ∙ sym (ap (λ (t : Home × ℕ × ℕ). t.0.subscriber) b.2)));
-    limits = λ key c at. let b = before key c at in sym (ap (λ (t : Home × ℕ × ℕ). t.2) b.2) ∙ linked.limits key b.0 b.1;
+    limits = λ key c at. let b = before key c at in
+        sym (ap (λ (t : Home × ℕ × ℕ). t.2) b.2) ∙ linked.limits key b.0 b.1;
     channel_counts = counts;
     returned = returned;
     marked = marked;
   } where
-    before : (key : ℕ) (d : Link) → get new key ≡ Some d → (c : Link) × (get f.connections key ≡ Some c) × (seat_of c ≡ seat_of d)
+    before : (key : ℕ) (d : Link) → get new key ≡ Some d
+        → (c : Link) × (get f.connections key ≡ Some c) × (seat_of c ≡ seat_of d)
     before key d at = seat-was f.connections new same key d at
 
-    sender : (p place key : ℕ) → IsSomeAnd (get f.connections key) (IsSenders p place) → IsSomeAnd (get new key) (IsSenders p place)
+    sender : (p place key : ℕ) → IsSomeAnd (get f.connections key) (IsSenders p place)
+        → IsSomeAnd (get new key) (IsSenders p place)
     sender p place key h = by (get f.connections key) (get new key) (same.same key) h where
-      by : (o n : Option Link) → option_map seat_of n ≡ option_map seat_of o → IsSomeAnd o (IsSenders p place) → IsSomeAnd n (IsSenders p place)
+      by : (o n : Option Link) → option_map seat_of n ≡ option_map seat_of o → IsSomeAnd o (IsSenders p place)
+          → IsSomeAnd n (IsSenders p place)
       by None n e h = absurd h
       by (Some c) None e h = absurd cc
       by (Some c) (Some d) e h = let is : seat_of d ≡ seat_of c = cc in record {
@@ -147,10 +171,12 @@ module _ {T U : Type 0} (f : Fields T U) (new : Slab Link) (same : SameSeats f.c
         place = ap (λ (t : Home × ℕ × ℕ). t.0.subscriber_place) is ∙ h.place;
       }
 
-    receiver : (q key : ℕ) → IsSomeAnd (get f.connections key) (IsReceivers q (f.config).subscriber_max_borrowed_samples)
+    receiver : (q key : ℕ)
+        → IsSomeAnd (get f.connections key) (IsReceivers q (f.config).subscriber_max_borrowed_samples)
         → IsSomeAnd (get new key) (IsReceivers q (f.config).subscriber_max_borrowed_samples)
     receiver q key h = by (get f.connections key) (get new key) (same.same key) h where
-      by : (o n : Option Link) → option_map seat_of n ≡ option_map seat_of o → IsSomeAnd o (IsReceivers q (f.config).subscriber_max_borrowed_samples)
+      by : (o n : Option Link) → option_map seat_of n ≡ option_map seat_of o
+          → IsSomeAnd o (IsReceivers q (f.config).subscriber_max_borrowed_samples)
           → IsSomeAnd n (IsReceivers q (f.config).subscriber_max_borrowed_samples)
       by None n e h = absurd h
       by (Some c) None e h = absurd cc

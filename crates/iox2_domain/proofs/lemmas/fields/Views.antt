@@ -25,7 +25,8 @@ use Rattle.iox2_domain.proofs.lemmas.containers.LookUps.{look_up-map}
 
 module _ {T U : Type 0} (f : Fields T U) where
   -- the mailboxes are those of the connections, at the numbers in the books
-  pub mailboxes-are : (p q : ℕ) → (state_of (kept_of f)).mailboxes p q ≡ mailboxes_of (number_in_slot f.books) f.connections p q
+  pub mailboxes-are : (p q : ℕ)
+      → (state_of (kept_of f)).mailboxes p q ≡ mailboxes_of (number_in_slot f.books) f.connections p q
   mailboxes-are p q =
       ap mailbox_if_between (look_up-map (stands_between p q) (between_of f.books f.connections) f.connections.slots)
       ∙ by (look_up (is_between p q) f.connections.slots) refl
@@ -35,7 +36,8 @@ module _ {T U : Type 0} (f : Fields T U) where
       both false b e = absurd cc
 
       by : (o : Option Link) → look_up (is_between p q) f.connections.slots ≡ o
-          → mailbox_if_between (option_map (between_of f.books f.connections) o) ≡ mailbox_if_any (number_in_slot f.books p) o
+          → mailbox_if_between (option_map (between_of f.books f.connections) o) ≡ mailbox_if_any
+          (number_in_slot f.books p) o
       by None e = refl
       by (Some c) e =
           let there = look_up-there (is_between p q) f.connections.slots c e in
@@ -43,12 +45,15 @@ module _ {T U : Type 0} (f : Fields T U) where
           ap (λ r. mailbox_if_any (number_in_slot f.books r) (Some c)) here
 
 -- where nothing is blocked, no number and no end tells
-pub nothing-blocked : (g h : BlockedDelivery → BlockedSend) (o : Option BlockedDelivery) → o ≡ None → option_map g o ≡ option_map h o
+pub nothing-blocked : (g h : BlockedDelivery → BlockedSend) (o : Option BlockedDelivery) → o ≡ None
+    → option_map g o ≡ option_map h o
 nothing-blocked g h o none = ap (option_map g) none ∙ sym (ap (option_map h) none)
 
 -- the machine's publisher isn't blocked where no delivery is
-pub unblocked : (books : Slab Book) (connections : Slab Link) (x : PublisherFields) → x.blocked ≡ None → ((publisher_of books connections x).port).blocked ≡ None
-unblocked books connections x free = ap (option_map (blocked_send (number_in_slot books x.id) (sender_ends connections x.keys))) free
+pub unblocked : (books : Slab Book) (connections : Slab Link) (x : PublisherFields) → x.blocked ≡ None
+    → ((publisher_of books connections x).port).blocked ≡ None
+unblocked books connections x free =
+    ap (option_map (blocked_send (number_in_slot books x.id) (sender_ends connections x.keys))) free
 
 -- a publisher keeps its history and its blocked send
 pub record KeepsHeld (x y : Publisher) : Type 0 where
@@ -62,7 +67,8 @@ module _ {T U : Type 0} where
       → IsHeldMessage t p n → IsHeldMessage s p n
   held-before s t p n boxes kept (In_history y at is) =
       let was = kept y at in In_history was.0 was.1 (ap (λ ns. contains ns n) was.2.history ∙ is)
-  held-before s t p n boxes kept (In_mailbox q is) = In_mailbox q (ap (λ box. contains (numbers_in box) n) (sym (boxes q)) ∙ is)
+  held-before s t p n boxes kept (In_mailbox q is) =
+      In_mailbox q (ap (λ box. contains (numbers_in box) n) (sym (boxes q)) ∙ is)
   held-before s t p n boxes kept (In_blocked_send y b at blocked is) =
       let was = kept y at in In_blocked_send was.0 b was.1 (was.2.blocked ∙ blocked) is
 

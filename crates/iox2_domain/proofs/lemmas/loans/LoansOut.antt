@@ -17,11 +17,13 @@ module _ {T U : Type 0} (f : Fields T U) (p n : ℕ) where
   lies-out key slot at = (
     at.loan,
     at.is_out,
-    loan-publisher at.book (contents_at f.contents key) slot n at.loan (message_in-parts at.book (contents_at f.contents key) slot _ at.lies) ∙ at.is_its,
+    loan-publisher at.book (contents_at f.contents key) slot n at.loan
+        (message_in-parts at.book (contents_at f.contents key) slot _ at.lies) ∙ at.is_its,
   )
 
   -- whether something was found says whether it is out
-  pub found-out : (o : Option MessageSlot) → MatchOption o (HoldsLoan (state_of (kept_of f)) p n → ⊥) (λ at. LiesInSlot f p n at.book at.slot)
+  pub found-out : (o : Option MessageSlot)
+      → MatchOption o (HoldsLoan (state_of (kept_of f)) p n → ⊥) (λ at. LiesInSlot f p n at.book at.slot)
       → (r : Bool) → r ≡ is_some o → IsTrue r ↔ HoldsLoan (state_of (kept_of f)) p n
   found-out None none r is = (λ yes. absurd (true≢false (sym yes ∙ is)), λ live. absurd (none live))
   found-out (Some at) lies r is = (λ yes. lies-out at.book at.slot lies, λ live. is)

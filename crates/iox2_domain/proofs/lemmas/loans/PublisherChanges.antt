@@ -1,5 +1,6 @@
 -- The record of one publisher changes at its place.
-use Rattle.std.proofs.Common.{◌≡◌, ◌≢◌, ℕ, zero, suc, le_refl, ◌+◌, ◌≤◌, ◌<◌, List, [], ◌∷◌, map, Bool, true, false, cond, eqb, get_or, slice_set, refl, ap, sym, subst, ◌∙◌, inl, inr, ◌⊎◌, arith}
+use Rattle.std.proofs.Common.{◌≡◌, ◌≢◌, ℕ, zero, suc, le_refl, ◌+◌, ◌≤◌, ◌<◌, List, [], ◌∷◌, map, Bool, true, false}
+use Rattle.std.proofs.Common.{cond, eqb, get_or, slice_set, refl, ap, sym, subst, ◌∙◌, inl, inr, ◌⊎◌, arith}
 use Rattle.std.proofs.lemmas.Bool.{cases_eq, eqb-true}
 use Rattle.std.specs.declared.option.Option.{Option}
 use Rattle.std.specs.declared.option.Option.TheVariants.{None, Some}
@@ -20,7 +21,8 @@ use Rattle.iox2_domain.specs.declared.publisher_state.BlockedDelivery.{BlockedDe
 use Rattle.iox2_domain.specs.Ports.{PublisherFields}
 use Rattle.iox2_domain.specs.Kept.{Named, state_of, port_named, ids, is_named}
 use Rattle.iox2_domain.specs.Fields.{Fields, kept_of, publisher_of, is_book_of, number_in_slot}
-use Rattle.iox2_domain.specs.Invariant.{IsLinked, HasBook, HasBooks, KeepsBooks, HasPublisherRoom, HasSegment, IsPlain, SenderHas, ReceiverHas, is_publisher, own_holders, is_loan_in, LendsBlocked}
+use Rattle.iox2_domain.specs.Invariant.{IsLinked, HasBook, HasBooks, KeepsBooks, HasPublisherRoom, HasSegment, IsPlain}
+use Rattle.iox2_domain.specs.Invariant.{SenderHas, ReceiverHas, is_publisher, own_holders, is_loan_in, LendsBlocked}
 use Rattle.iox2_domain.specs.Shows.{KeepsEntries}
 use Rattle.iox2_domain.proofs.lemmas.containers.LookUps.{look_up-map}
 use Rattle.iox2_domain.proofs.lemmas.fields.KeptBooks.{StayWithBooks, StoodOrEnters, kept-publishers}
@@ -57,13 +59,15 @@ other_slots x loans items blocked = assumption (le_refl x.loan_room, le_refl x.k
 
 module _ {A : Type 0} where
   -- a view that doesn't tell the new record from the old one stays
-  pub map-set : {B : Type 0} (g : A → B) (xs : List (Option A)) (i : ℕ) (x y : A) → get_or xs i None ≡ Some x → g y ≡ g x
+  pub map-set : {B : Type 0} (g : A → B) (xs : List (Option A)) (i : ℕ) (x y : A) → get_or xs i None ≡ Some x
+      → g y ≡ g x
       → map (option_map g) (slice_set xs i (Some y)) ≡ map (option_map g) xs
   map-set g [] i x y at same = refl
   map-set g (z ∷ zs) zero x y at same = ap (λ o. o ∷ map (option_map g) zs) (ap Some same ∙ sym (ap (option_map g) at))
   map-set g (z ∷ zs) (suc i) x y at same = ap (λ ys. option_map g z ∷ ys) (map-set g zs i x y at same)
 
-module _ {T U : Type 0} (f : Fields T U) (i : ℕ) (x y : PublisherFields) (at : get_or f.publishers i None ≡ Some x) (id : y.id ≡ x.id) where
+module _ {T U : Type 0} (f : Fields T U) (i : ℕ) (x y : PublisherFields) (at : get_or f.publishers i None ≡ Some x)
+    (id : y.id ≡ x.id) where
   -- ---- who stands where
 
   -- the new record stands at the place
@@ -79,7 +83,8 @@ module _ {T U : Type 0} (f : Fields T U) (i : ℕ) (x y : PublisherFields) (at :
       → ((k ≡ i) × (z ≡ y)) ⊎ ((k ≢ i) × (get_or f.publishers k None ≡ Some z))
   changed-was k z here = elim (cases_eq k i) [
     | inl same ↦
-        let at_place : get_or (slice_set f.publishers i (Some y)) i None ≡ Some z = subst (λ (n : ℕ). get_or (slice_set f.publishers i (Some y)) n None ≡ Some z) same here in
+        let at_place : get_or (slice_set f.publishers i (Some y)) i None ≡ Some z =
+        subst (λ (n : ℕ). get_or (slice_set f.publishers i (Some y)) n None ≡ Some z) same here in
         let is : Some y ≡ Some z = sym changed-here ∙ at_place in
         inl (same, cc)
     | inr away ↦ inr (away, sym (changed-others k away) ∙ here)
@@ -90,7 +95,8 @@ module _ {T U : Type 0} (f : Fields T U) (i : ℕ) (x y : PublisherFields) (at :
       → ((k ≡ i) × (z ≡ x)) ⊎ ((k ≢ i) × (get_or (slice_set f.publishers i (Some y)) k None ≡ Some z))
   changed-still k z there = elim (cases_eq k i) [
     | inl same ↦
-        let at_place : get_or f.publishers i None ≡ Some z = subst (λ (n : ℕ). get_or f.publishers n None ≡ Some z) same there in
+        let at_place : get_or f.publishers i None ≡ Some z =
+        subst (λ (n : ℕ). get_or f.publishers n None ≡ Some z) same there in
         let is : Some x ≡ Some z = sym at ∙ at_place in
         inl (same, cc)
     | inr away ↦ inr (away, changed-others k away ∙ there)
@@ -100,14 +106,16 @@ module _ {T U : Type 0} (f : Fields T U) (i : ℕ) (x y : PublisherFields) (at :
   test-same p = ap (λ n. eqb n p) id
 
   -- ids stay apart
-  pub changed-ids_apart : ((p : ℕ) → IsOnly (is_publisher p) f.publishers) → (p : ℕ) → IsOnly (is_publisher p) (slice_set f.publishers i (Some y))
+  pub changed-ids_apart : ((p : ℕ) → IsOnly (is_publisher p) f.publishers) → (p : ℕ)
+      → IsOnly (is_publisher p) (slice_set f.publishers i (Some y))
   changed-ids_apart only p = record {
     one = λ j k v w at_j at_k is_v is_w.
         let a = before j v at_j is_v in
         let b = before k w at_k is_w in
         (only p).one j k a.0 b.0 a.1 b.1 a.2 b.2;
   } where
-    before : (k : ℕ) (z : PublisherFields) → get_or (slice_set f.publishers i (Some y)) k None ≡ Some z → is_publisher p z ≡ true
+    before : (k : ℕ) (z : PublisherFields) → get_or (slice_set f.publishers i (Some y)) k None ≡ Some z
+        → is_publisher p z ≡ true
         → (w : PublisherFields) × (get_or f.publishers k None ≡ Some w) × (is_publisher p w ≡ true)
     before k z here is = elim (changed-was k z here) [
       | inl same ↦ (x, rw same.0 at, sym (test-same p) ∙ sym (ap (is_publisher p) same.1) ∙ is)
@@ -116,9 +124,11 @@ module _ {T U : Type 0} (f : Fields T U) (i : ℕ) (x y : PublisherFields) (at :
 
   -- the publisher with an id
   pub look_up-publisher : ((q : ℕ) → IsOnly (is_publisher q) f.publishers) → (p : ℕ)
-      → look_up (is_publisher p) (slice_set f.publishers i (Some y)) ≡ cond (eqb x.id p) (Some y) (look_up (is_publisher p) f.publishers)
+      → look_up (is_publisher p) (slice_set f.publishers i (Some y)) ≡ cond (eqb x.id p) (Some y)
+      (look_up (is_publisher p) f.publishers)
   look_up-publisher only p =
-      look_up-changed (is_publisher p) f.publishers (slice_set f.publishers i (Some y)) i x y (only p) (changed-ids_apart only p) at changed-here changed-others (test-same p)
+      look_up-changed (is_publisher p) f.publishers (slice_set f.publishers i (Some y)) i x y (only p)
+      (changed-ids_apart only p) at changed-here changed-others (test-same p)
       ∙ ap (λ b. cond b (Some y) (look_up (is_publisher p) f.publishers)) (test-same p)
 
   -- ---- the state
@@ -136,25 +146,30 @@ module _ {T U : Type 0} (f : Fields T U) (i : ℕ) (x y : PublisherFields) (at :
       ap port (look_up-map (is_named p) shown (slice_set f.publishers i (Some y)))
       ∙ ap (λ o. port (option_map shown o)) (look_up-publisher only p)
       ∙ by (eqb x.id p) (eqb p x.id) (symmetric x.id p) (look_up (is_publisher p) f.publishers)
-      ∙ ap (λ o. cond (eqb p x.id) (Some ((publisher_of f.books f.connections y).port)) (port o)) (sym (look_up-map (is_named p) shown f.publishers))
+      ∙ ap (λ o. cond (eqb p x.id) (Some ((publisher_of f.books f.connections y).port)) (port o))
+      (sym (look_up-map (is_named p) shown f.publishers))
     where
       symmetric : (a b : ℕ) → eqb a b ≡ eqb b a
       symmetric a b = grind arith
 
       by : (a b : Bool) → a ≡ b → (o : Option PublisherFields)
-          → port (option_map shown (cond a (Some y) o)) ≡ cond b (Some ((publisher_of f.books f.connections y).port)) (port (option_map shown o))
+          → port (option_map shown (cond a (Some y) o)) ≡ cond b (Some ((publisher_of f.books f.connections y).port))
+          (port (option_map shown o))
       by true b e o = rw (sym e) refl
       by false b e o = rw (sym e) refl
 
   -- the machine's state with the changed publisher
-  pub changed-is : ((q : ℕ) → IsOnly (is_publisher q) f.publishers) → state_of (kept_of (with_publisher f i y)) ≡ record (state_of (kept_of f)) {
-    publishers = put_at (state_of (kept_of f)).publishers x.id (Some ((publisher_of f.books f.connections y).port));
-  }
+  pub changed-is : ((q : ℕ) → IsOnly (is_publisher q) f.publishers)
+      → state_of (kept_of (with_publisher f i y)) ≡ record (state_of (kept_of f)) {
+        publishers = put_at (state_of (kept_of f)).publishers x.id (Some ((publisher_of f.books f.connections y).port));
+      }
   changed-is only = λ t. record (state_of (kept_of f)) { publishers = all t; publisher_places = places t } where
-    all : (state_of (kept_of (with_publisher f i y))).publishers ≡ put_at (state_of (kept_of f)).publishers x.id (Some ((publisher_of f.books f.connections y).port))
+    all : (state_of (kept_of (with_publisher f i y))).publishers ≡ put_at (state_of (kept_of f)).publishers x.id
+        (Some ((publisher_of f.books f.connections y).port))
     all = fun_ext (named-changed only)
 
-    ids-are : (zs : List (Option PublisherFields)) → ids (map (option_map (publisher_of f.books f.connections)) zs) ≡ map (option_map (λ (z : PublisherFields). z.id)) zs
+    ids-are : (zs : List (Option PublisherFields)) → ids
+        (map (option_map (publisher_of f.books f.connections)) zs) ≡ map (option_map (λ (z : PublisherFields). z.id)) zs
     ids-are [] = refl
     ids-are (None ∷ zs) = ap (λ ns. None ∷ ns) (ids-are zs)
     ids-are (Some z ∷ zs) = ap (λ ns. Some z.id ∷ ns) (ids-are zs)
@@ -167,25 +182,31 @@ module _ {T U : Type 0} (f : Fields T U) (i : ℕ) (x y : PublisherFields) (at :
 
   -- ---- what holds still, part by part
 
-  -- its connections still know it, where the new places have those keys of the old ones that lead to connections of its own
+  -- its connections still know it, where the new places have those keys of the old ones that lead to connections of its
+  -- own
   pub changed-linked : IsLinked f → x.key_room ≤ y.key_room → IsSenderLinked y.id f.connections y.keys
-      → ((key : ℕ) (c : Link) → get f.connections key ≡ Some c → c.home.publisher ≡ x.id → get_or x.keys c.home.subscriber_place None ≡ Some key
+      → ((key : ℕ) (c : Link) → get f.connections key ≡ Some c → c.home.publisher ≡ x.id
+      → get_or x.keys c.home.subscriber_place None ≡ Some key
       → get_or y.keys c.home.subscriber_place None ≡ Some key)
       → IsLinked (with_publisher f i y)
   changed-linked linked room sender still = record {
-    senders = λ k z here. elim (changed-was k z here) [ inl is ↦ rw is.1 sender | inr away ↦ linked.senders k z away.1 ];
+    senders =
+        λ k z here. elim (changed-was k z here) [ inl is ↦ rw is.1 sender | inr away ↦ linked.senders k z away.1 ];
     receivers = linked.receivers;
     expired = linked.expired;
     ends = λ key c at_c. by key c at_c (linked.ends key c at_c);
     receiver_places = linked.receiver_places;
     knows = linked.knows;
     knows_publishers = λ key k c z at_c at_z same. elim (changed-was k z at_z) [
-      | inl is ↦ linked.knows_publishers key k c x at_c (rw is.0 at) (sym id ∙ sym (ap (λ (w : PublisherFields). w.id) is.1) ∙ same)
+      | inl is ↦ linked.knows_publishers key k c x at_c (rw is.0 at)
+          (sym id ∙ sym (ap (λ (w : PublisherFields). w.id) is.1) ∙ same)
       | inr away ↦ linked.knows_publishers key k c z at_c away.1 same
     ];
     sender_rooms = λ key k c z at_c at_z same. elim (changed-was k z at_z) [
       | inl is ↦
-          let low : c.home.subscriber_place < x.key_room = linked.sender_rooms key k c x at_c (rw is.0 at) (sym id ∙ sym (ap (λ (w : PublisherFields). w.id) is.1) ∙ same) in
+          let low : c.home.subscriber_place < x.key_room =
+          linked.sender_rooms key k c x at_c (rw is.0 at)
+          (sym id ∙ sym (ap (λ (w : PublisherFields). w.id) is.1) ∙ same) in
           rw is.1 (omega arith)
       | inr away ↦ linked.sender_rooms key k c z at_c away.1 same
     ];
@@ -193,9 +214,11 @@ module _ {T U : Type 0} (f : Fields T U) (i : ℕ) (x y : PublisherFields) (at :
     limits = linked.limits;
     channel_counts = linked.channel_counts;
     returned = λ key c at_c. reclaims key c at_c (linked.returned key c at_c);
-    marked = λ key c at_c is. let both = linked.marked key c at_c is in record { sender = moved key c at_c both.sender; receiver = both.receiver };
+    marked = λ key c at_c is. let both = linked.marked key c at_c is in
+        record { sender = moved key c at_c both.sender; receiver = both.receiver };
   } where
-    moved : (key : ℕ) (c : Link) → get f.connections key ≡ Some c → SenderHas f.publishers key c → SenderHas (slice_set f.publishers i (Some y)) key c
+    moved : (key : ℕ) (c : Link) → get f.connections key ≡ Some c → SenderHas f.publishers key c
+        → SenderHas (slice_set f.publishers i (Some y)) key c
     moved key c at_c has = elim (changed-still c.home.publisher_place has.publisher has.stands) [
       | inl is ↦
           let its : c.home.publisher ≡ x.id = sym has.is_its ∙ ap (λ (w : PublisherFields). w.id) is.1 in
@@ -203,12 +226,14 @@ module _ {T U : Type 0} (f : Fields T U) (i : ℕ) (x y : PublisherFields) (at :
             publisher = y;
             stands = rw is.0 changed-here;
             is_its = id ∙ sym its;
-            has = still key c at_c its (ap (λ (w : PublisherFields). get_or w.keys c.home.subscriber_place None) (sym is.1) ∙ has.has);
+            has = still key c at_c its
+                (ap (λ (w : PublisherFields). get_or w.keys c.home.subscriber_place None) (sym is.1) ∙ has.has);
           }
       | inr away ↦ record { publisher = has.publisher; stands = away.1; is_its = has.is_its; has = has.has }
     ]
 
-    by : (key : ℕ) (c : Link) → get f.connections key ≡ Some c → SenderHas f.publishers key c ⊎ ReceiverHas f.subscribers key c
+    by : (key : ℕ) (c : Link) → get f.connections key ≡ Some c
+        → SenderHas f.publishers key c ⊎ ReceiverHas f.subscribers key c
         → SenderHas (slice_set f.publishers i (Some y)) key c ⊎ ReceiverHas f.subscribers key c
     by key c at_c (inl has) = inl (moved key c at_c has)
     by key c at_c (inr has) = inr has
@@ -221,7 +246,8 @@ module _ {T U : Type 0} (f : Fields T U) (i : ℕ) (x y : PublisherFields) (at :
   -- with its old places it is linked as before
   pub changed-linked_same : IsLinked f → x.key_room ≤ y.key_room → y.keys ≡ x.keys → IsLinked (with_publisher f i y)
   changed-linked_same linked room same =
-      changed-linked linked room (rw (id, same) (linked.senders i x at)) (λ key c at_c its has. ap (λ (ps : List (Option ℕ)). get_or ps c.home.subscriber_place None) same ∙ has)
+      changed-linked linked room (rw (id, same) (linked.senders i x at))
+      (λ key c at_c its has. ap (λ (ps : List (Option ℕ)). get_or ps c.home.subscriber_place None) same ∙ has)
 
   -- it has its book
   pub changed-books : HasBooks f → KeepsSettings x y → HasBooks (with_publisher f i y)
@@ -232,7 +258,14 @@ module _ {T U : Type 0} (f : Fields T U) (i : ℕ) (x y : PublisherFields) (at :
       | inl is ↦ rw is.1 (mine (books.publishers i x at))
       | inr away ↦
           let has = books.publishers k z away.1 in
-          record { book = has.book; stands = has.stands; is_its = has.is_its; node = has.node; slots = has.slots; room = has.room }
+          record {
+            book = has.book;
+            stands = has.stands;
+            is_its = has.is_its;
+            node = has.node;
+            slots = has.slots;
+            room = has.room;
+          }
     ];
     no_others = books.no_others;
   } where
@@ -247,18 +280,23 @@ module _ {T U : Type 0} (f : Fields T U) (i : ℕ) (x y : PublisherFields) (at :
     }
 
   -- it has room
-  pub changed-room : ((k : ℕ) (z : PublisherFields) → get_or f.publishers k None ≡ Some z → HasPublisherRoom f.config z) → KeepsSettings x y
-      → (k : ℕ) (z : PublisherFields) → get_or (slice_set f.publishers i (Some y)) k None ≡ Some z → HasPublisherRoom f.config z
-  changed-room rooms keeps k z here = elim (changed-was k z here) [ inl is ↦ rw is.1 (mine (rooms i x at)) | inr away ↦ rooms k z away.1 ] where
-    mine : HasPublisherRoom f.config x → HasPublisherRoom f.config y
-    mine has = record {
-      loans = let most = keeps.max_loaned_samples in let room = keeps.loan_room in let enough = has.loans in omega arith;
-      history = keeps.history_room ∙ has.history;
-      size = rw (keeps.slots, keeps.segment_length) has.size;
-    }
+  pub changed-room : ((k : ℕ) (z : PublisherFields) → get_or f.publishers k None ≡ Some z → HasPublisherRoom f.config z)
+      → KeepsSettings x y
+      → (k : ℕ) (z : PublisherFields) → get_or (slice_set f.publishers i (Some y)) k None ≡ Some z
+      → HasPublisherRoom f.config z
+  changed-room rooms keeps k z here =
+      elim (changed-was k z here) [ inl is ↦ rw is.1 (mine (rooms i x at)) | inr away ↦ rooms k z away.1 ] where
+        mine : HasPublisherRoom f.config x → HasPublisherRoom f.config y
+        mine has = record {
+          loans = let most = keeps.max_loaned_samples in let room = keeps.loan_room in let enough = has.loans in
+              omega arith;
+          history = keeps.history_room ∙ has.history;
+          size = rw (keeps.slots, keeps.segment_length) has.size;
+        }
 
   -- it is still plain
-  pub changed-plain : ((k : ℕ) (z : PublisherFields) → get_or f.publishers k None ≡ Some z → IsPlain z) → KeepsSettings x y → (LendsBlocked x → LendsBlocked y)
+  pub changed-plain : ((k : ℕ) (z : PublisherFields) → get_or f.publishers k None ≡ Some z → IsPlain z)
+      → KeepsSettings x y → (LendsBlocked x → LendsBlocked y)
       → (k : ℕ) (z : PublisherFields) → get_or (slice_set f.publishers i (Some y)) k None ≡ Some z → IsPlain z
   changed-plain plain keeps lends k z here = elim (changed-was k z here) [
     | inl is ↦
@@ -271,19 +309,26 @@ module _ {T U : Type 0} (f : Fields T U) (i : ℕ) (x y : PublisherFields) (at :
   ]
 
   -- each book is somebody's still, or left
-  pub changed-kept_books : (books : Slab Book) → y.book ≡ x.book → KeepsBooks f.next_port f.publishers books → KeepsBooks f.next_port (slice_set f.publishers i (Some y)) books
-  changed-kept_books books book = kept-publishers f.next_port f.next_port f.publishers (slice_set f.publishers i (Some y)) (omega arith) stay stood books where
-    stay : StayWithBooks f.publishers (slice_set f.publishers i (Some y))
-    stay k z there = elim (changed-still k z there) [
-      | inl is ↦ (y, rw is.0 changed-here, id ∙ sym (ap (λ (w : PublisherFields). w.id) is.1), book ∙ sym (ap (λ (w : PublisherFields). w.book) is.1))
-      | inr away ↦ (z, away.1, refl, refl)
-    ]
+  pub changed-kept_books : (books : Slab Book) → y.book ≡ x.book → KeepsBooks f.next_port f.publishers books
+      → KeepsBooks f.next_port (slice_set f.publishers i (Some y)) books
+  changed-kept_books books book = kept-publishers f.next_port f.next_port f.publishers
+      (slice_set f.publishers i (Some y)) (omega arith) stay stood books where
+        stay : StayWithBooks f.publishers (slice_set f.publishers i (Some y))
+        stay k z there = elim (changed-still k z there) [
+          | inl is ↦ (
+            y,
+            rw is.0 changed-here,
+            id ∙ sym (ap (λ (w : PublisherFields). w.id) is.1),
+            book ∙ sym (ap (λ (w : PublisherFields). w.book) is.1),
+          )
+          | inr away ↦ (z, away.1, refl, refl)
+        ]
 
-    stood : StoodOrEnters f.next_port f.publishers (slice_set f.publishers i (Some y))
-    stood k z here = elim (changed-was k z here) [
-      | inl is ↦ inl (x, rw is.0 at, ap (λ (w : PublisherFields). w.id) is.1 ∙ id)
-      | inr away ↦ inl (z, away.1, refl)
-    ]
+        stood : StoodOrEnters f.next_port f.publishers (slice_set f.publishers i (Some y))
+        stood k z here = elim (changed-was k z here) [
+          | inl is ↦ inl (x, rw is.0 at, ap (λ (w : PublisherFields). w.id) is.1 ∙ id)
+          | inr away ↦ inl (z, away.1, refl)
+        ]
 
   -- what the publisher itself has of the slot, or what is out of one that is gone
   abbrev own : (p slot : ℕ) → Option PublisherFields → ℕ
@@ -293,21 +338,30 @@ module _ {T U : Type 0} (f : Fields T U) (i : ℕ) (x y : PublisherFields) (at :
 
   -- it has other slots itself
   pub changed-own : ((q : ℕ) → IsOnly (is_publisher q) f.publishers) → (p slot : ℕ)
-      → own_holders (with_publisher f i y) p slot ≡ cond (eqb x.id p) (times slot y.loans + times slot (y.history).items) (own_holders f p slot)
-  changed-own only p slot = ap (own p slot) (look_up-publisher only p) ∙ by (eqb x.id p) (look_up (is_publisher p) f.publishers) where
-    by : (b : Bool) (o : Option PublisherFields) → own p slot (cond b (Some y) o) ≡ cond b (times slot y.loans + times slot (y.history).items) (own p slot o)
-    by true o = refl
-    by false o = refl
+      → own_holders (with_publisher f i y) p slot ≡ cond (eqb x.id p)
+      (times slot y.loans + times slot (y.history).items) (own_holders f p slot)
+  changed-own only p slot =
+      ap (own p slot) (look_up-publisher only p) ∙ by (eqb x.id p) (look_up (is_publisher p) f.publishers) where
+        by : (b : Bool) (o : Option PublisherFields)
+            → own p slot (cond b (Some y) o) ≡ cond b (times slot y.loans + times slot (y.history).items) (own p slot o)
+        by true o = refl
+        by false o = refl
 
   -- with its old history and its old blocked delivery it holds what it held
-  pub changed-entries : ((q : ℕ) → IsOnly (is_publisher q) f.publishers) → KeepsEntries (kept_of f) → y.history ≡ x.history
-      → ((publisher_of f.books f.connections x).port).blocked ≡ ((publisher_of f.books f.connections y).port).blocked → KeepsEntries (kept_of (with_publisher f i y))
+  pub changed-entries : ((q : ℕ) → IsOnly (is_publisher q) f.publishers) → KeepsEntries (kept_of f)
+      → y.history ≡ x.history
+      → ((publisher_of f.books f.connections x).port).blocked ≡ ((publisher_of f.books f.connections y).port).blocked
+      → KeepsEntries (kept_of (with_publisher f i y))
   changed-entries only entries history blocked = λ p n held. entries p n
-      (held-before (state_of (kept_of f)) (state_of (kept_of (with_publisher f i y))) p n (λ q. refl) (λ z here. was p z (eqb p x.id) refl (sym (named-changed only p) ∙ here)) held) where
-        there : (p : ℕ) → p ≡ x.id → (state_of (kept_of f)).publishers p ≡ Some ((publisher_of f.books f.connections x).port)
-        there p e = ap port (look_up-map (is_named p) shown f.publishers ∙ ap (option_map shown) (look_up-found (is_publisher p) f.publishers i x (only p) at (rw e (grind arith))))
+      (held-before (state_of (kept_of f)) (state_of (kept_of (with_publisher f i y))) p n (λ q. refl)
+      (λ z here. was p z (eqb p x.id) refl (sym (named-changed only p) ∙ here)) held) where
+        there : (p : ℕ) → p ≡ x.id
+            → (state_of (kept_of f)).publishers p ≡ Some ((publisher_of f.books f.connections x).port)
+        there p e = ap port (look_up-map (is_named p) shown f.publishers
+            ∙ ap (option_map shown) (look_up-found (is_publisher p) f.publishers i x (only p) at (rw e (grind arith))))
 
-        was : (p : ℕ) (z : Publisher) (b : Bool) → eqb p x.id ≡ b → cond b (Some ((publisher_of f.books f.connections y).port)) ((state_of (kept_of f)).publishers p) ≡ Some z
+        was : (p : ℕ) (z : Publisher) (b : Bool) → eqb p x.id ≡ b
+            → cond b (Some ((publisher_of f.books f.connections y).port)) ((state_of (kept_of f)).publishers p) ≡ Some z
             → (w : Publisher) × ((state_of (kept_of f)).publishers p ≡ Some w) × KeepsHeld w z
         was p z true e here =
             let same : Some ((publisher_of f.books f.connections y).port) ≡ Some z = here in
@@ -320,6 +374,8 @@ module _ {T U : Type 0} (f : Fields T U) (i : ℕ) (x y : PublisherFields) (at :
               },
             )
           where
-            history_same : ((publisher_of f.books f.connections x).port).history ≡ ((publisher_of f.books f.connections y).port).history
-            history_same = ap (λ (n : ℕ). map (number_in_slot f.books n) x.history.items) (sym id) ∙ ap (λ (h : Buffer ℕ). map (number_in_slot f.books y.id) h.items) (sym history)
+            history_same : ((publisher_of f.books f.connections x).port).history
+                ≡ ((publisher_of f.books f.connections y).port).history
+            history_same = ap (λ (n : ℕ). map (number_in_slot f.books n) x.history.items) (sym id)
+                ∙ ap (λ (h : Buffer ℕ). map (number_in_slot f.books y.id) h.items) (sym history)
         was p z false e here = (z, here, record { history = refl; blocked = refl })

@@ -23,17 +23,22 @@ numbers-are_kept number c =
 
 -- each stands in the connection
 pub times-kept : (slot : ℕ) (c : Link) → times slot (kept_slots c) + times slot c.returned ≡ stands_in slot c
-times-kept slot c = omega (arith, times-append slot (other_slots c) (c.waiting ++ c.borrowed), times-append slot c.waiting c.borrowed)
+times-kept slot c =
+    omega (arith, times-append slot (other_slots c) (c.waiting ++ c.borrowed), times-append slot c.waiting c.borrowed)
 
 -- a number in the mailbox is that of a slot in the connection
-pub slot-of_number : (number : ℕ → ℕ) (c : Link) (n : ℕ) → contains (numbers_in (mailbox_of number c)) n ≡ true → (slot : ℕ) × (0 < stands_in slot c) × (number slot ≡ n)
+pub slot-of_number : (number : ℕ → ℕ) (c : Link) (n : ℕ) → contains (numbers_in (mailbox_of number c)) n ≡ true
+    → (slot : ℕ) × (0 < stands_in slot c) × (number slot ≡ n)
 slot-of_number number c n has =
-    let found = contains-map_there number (kept_slots c) n (ap (λ (ns : List ℕ). contains ns n) (sym (numbers-are_kept number c)) ∙ has) in
+    let found = contains-map_there number (kept_slots c) n
+    (ap (λ (ns : List ℕ). contains ns n) (sym (numbers-are_kept number c)) ∙ has) in
     (found.0, omega (arith, times-there found.0 (kept_slots c) found.1, times-kept found.0 c), found.2)
 
 -- a slot in a connection in which nothing was given back has its number in the mailbox
-pub number-of_slot : (number : ℕ → ℕ) (c : Link) (slot : ℕ) → c.returned ≡ [] → 0 < stands_in slot c → contains (numbers_in (mailbox_of number c)) (number slot) ≡ true
+pub number-of_slot : (number : ℕ → ℕ) (c : Link) (slot : ℕ) → c.returned ≡ [] → 0 < stands_in slot c
+    → contains (numbers_in (mailbox_of number c)) (number slot) ≡ true
 number-of_slot number c slot none some =
     let back : times slot c.returned ≡ 0 = ap (times slot) none in
     ap (λ (ns : List ℕ). contains ns (number slot)) (numbers-are_kept number c)
-    ∙ contains-map number (kept_slots c) slot (times-stands slot (kept_slots c) (omega (arith, some, back, times-kept slot c)))
+    ∙ contains-map number (kept_slots c) slot
+    (times-stands slot (kept_slots c) (omega (arith, some, back, times-kept slot c)))

@@ -1,5 +1,6 @@
 -- The slots of a connection, in its publisher's book.
-use Rattle.std.proofs.Common.{◌≡◌, ℕ, ◌<◌, ap, ◌∙◌, arith, refl, Some, true, false, ◌||◌, eqb, List, [], ◌∷◌, ◌≢◌, zero, suc, map, get_or, Contains, length, inl, inr}
+use Rattle.std.proofs.Common.{◌≡◌, ℕ, ◌<◌, ap, ◌∙◌, arith, refl, Some, true, false, ◌||◌, eqb, List, [], ◌∷◌, ◌≢◌, zero}
+use Rattle.std.proofs.Common.{suc, map, get_or, Contains, length, inl, inr}
 use Rattle.std.proofs.lemmas.Bool.{eqb-true, eq-eqb, ne_eqb, or_cases, or_left, or_right}
 use Rattle.std.specs.Prelude.{slice_get, slice_index}
 use Rattle.std.specs.Option.{option_map_or}
@@ -25,7 +26,8 @@ times-some slot slots has = by slots (contains-from slots slot has) where
     | inr later ↦ let more = by xs later in omega (arith, times-cons slot x xs, more)
   ]
 
-module _ {T U : Type 0} (f : Fields T U) (sound : IsDomain f) (key book : ℕ) (c : Link) (b : Book) (at : get f.connections key ≡ Some c) (at_b : get f.books book ≡ Some b)
+module _ {T U : Type 0} (f : Fields T U) (sound : IsDomain f) (key book : ℕ) (c : Link) (b : Book)
+    (at : get f.connections key ≡ Some c) (at_b : get f.books book ≡ Some b)
     (its : b.publisher ≡ c.home.publisher) where
   found-book : look_up (is_book_of c.home.publisher) f.books.slots ≡ Some b
   found-book = book-by_id f.books book c.home.publisher b (sound.parts.books.one_each c.home.publisher) at_b its
@@ -36,20 +38,26 @@ module _ {T U : Type 0} (f : Fields T U) (sound : IsDomain f) (key book : ℕ) (
 
   book-covers : IsCovered c.home.publisher b.holders f.connections.slots
   book-covers = record {
-    at = λ slot. omega (arith, sound.parts.counted.at c.home.publisher slot, book-holders f.books book c.home.publisher b (sound.parts.books.one_each c.home.publisher) at_b its slot);
+    at = λ slot. omega (
+      arith,
+      sound.parts.counted.at c.home.publisher slot,
+      book-holders f.books book c.home.publisher b (sound.parts.books.one_each c.home.publisher) at_b its slot,
+    );
   }
 
   -- a slot that waits is in use
   pub waiting-in_use : (slot : ℕ) → Contains c.waiting slot → 0 < holders_at b slot
   waiting-in_use slot has =
       let some = times-some slot c.waiting has in
-      counter_if_stands c.home.publisher b.holders f.connections.slots key slot c book-covers at refl (omega (arith, some))
+      counter_if_stands c.home.publisher b.holders f.connections.slots key slot c book-covers at refl
+      (omega (arith, some))
 
   -- a slot that is borrowed is in use
   pub borrowed-in_use : (slot : ℕ) → Contains c.borrowed slot → 0 < holders_at b slot
   borrowed-in_use slot has =
       let some = times-some slot c.borrowed has in
-      counter_if_stands c.home.publisher b.holders f.connections.slots key slot c book-covers at refl (omega (arith, some))
+      counter_if_stands c.home.publisher b.holders f.connections.slots key slot c book-covers at refl
+      (omega (arith, some))
 
 -- what is got at an index
 pub index-got : (xs : List ℕ) (i x : ℕ) → slice_get xs i ≡ Some x → slice_index xs i ≡ x
@@ -58,17 +66,22 @@ index-got (y ∷ xs) zero x e = cc
 index-got (y ∷ xs) (suc i) x e = index-got xs i x e
 
 -- a number is not among those of slots that all have others
-pub contains-none : (number : ℕ → ℕ) (slots : List ℕ) (n : ℕ) → ((slot : ℕ) → Contains slots slot → number slot ≢ n) → contains (map number slots) n ≡ false
+pub contains-none : (number : ℕ → ℕ) (slots : List ℕ) (n : ℕ) → ((slot : ℕ) → Contains slots slot → number slot ≢ n)
+    → contains (map number slots) n ≡ false
 contains-none number [] n others = refl
 contains-none number (slot ∷ slots) n others =
     ap (λ b. b || contains (map number slots) n) (ne_eqb (number slot) n (others slot (zero, omega arith, refl)))
     ∙ contains-none number slots n (λ other has. others other (suc has.0, omega (arith, has.1), has.2))
 
 -- a number is among those of slots of which one has it
-pub contains-one : (number : ℕ → ℕ) (slots : List ℕ) (slot : ℕ) → Contains slots slot → contains (map number slots) (number slot) ≡ true
+pub contains-one : (number : ℕ → ℕ) (slots : List ℕ) (slot : ℕ) → Contains slots slot
+    → contains (map number slots) (number slot) ≡ true
 contains-one number [] slot has = absurd (omega (arith, has.1))
 contains-one number (x ∷ xs) slot has = by has.0 has.1 has.2 (λ k lt at. contains-one number xs slot (k, lt, at)) where
-  by : (k : ℕ) → k < length (x ∷ xs) → get_or (x ∷ xs) k slot ≡ slot → ((i : ℕ) → i < length xs → get_or xs i slot ≡ slot → contains (map number xs) (number slot) ≡ true)
+  by : (k : ℕ) → k < length (x ∷ xs) → get_or (x ∷ xs) k slot ≡ slot
+      → ((i : ℕ) → i < length xs → get_or xs i slot ≡ slot → contains (map number xs) (number slot) ≡ true)
       → contains (map number (x ∷ xs)) (number slot) ≡ true
-  by zero lt at later = or_left (eqb (number x) (number slot)) (contains (map number xs) (number slot)) (eq-eqb (number x) (number slot) (ap number at))
-  by (suc k) lt at later = or_right (eqb (number x) (number slot)) (contains (map number xs) (number slot)) (later k (omega arith) at)
+  by zero lt at later = or_left (eqb (number x) (number slot)) (contains (map number xs) (number slot))
+      (eq-eqb (number x) (number slot) (ap number at))
+  by (suc k) lt at later =
+      or_right (eqb (number x) (number slot)) (contains (map number xs) (number slot)) (later k (omega arith) at)

@@ -13,17 +13,21 @@ use Rattle.iox2_machine.specs.machine.Records.{Entry, Loan}
 use Rattle.iox2_connections.proofs.Counts.{one_if, one_if_same, get_or-one_holder_less}
 use Rattle.iox2_domain.specs.Discards.{with_holder_gone}
 use Rattle.iox2_domain.specs.LeftBooks.{with_holder_left}
-use Rattle.iox2_domain.specs.Kept.{KeptMessage, Lent_message, Sent_message, state_of, entries_of, is_numbered, message_numbered, loan_in, entry_in}
+use Rattle.iox2_domain.specs.Kept.{KeptMessage, Lent_message, Sent_message, state_of, entries_of, is_numbered}
+use Rattle.iox2_domain.specs.Kept.{message_numbered, loan_in, entry_in}
 use Rattle.iox2_domain.specs.Fields.{Fields, kept_of, message_in, contents_at}
 use Rattle.iox2_domain.specs.Invariant.{HasLoneLoans, IsNumbered, HasNumber, HasShapes, HasParts}
 use Rattle.iox2_domain.proofs.lemmas.slots.BookChanges.{KeepsSlots, book-here, book-others, book-was}
 use Rattle.iox2_domain.proofs.lemmas.slots.LoneLoans.{lone-counters}
-use Rattle.iox2_domain.proofs.lemmas.slots.Messages.{lies_at, message_in-free, message_at-book, message_at-slot, has_number, loan-there, entry-there, ChangesSlot, message_numbered-others}
+use Rattle.iox2_domain.proofs.lemmas.slots.Messages.{lies_at, message_in-free, message_at-book, message_at-slot}
+use Rattle.iox2_domain.proofs.lemmas.slots.Messages.{has_number, loan-there, entry-there, ChangesSlot}
+use Rattle.iox2_domain.proofs.lemmas.slots.Messages.{message_numbered-others}
 use mathlib.Core.Path.{fun_ext}
 use Rattle.iox2_domain.proofs.lemmas.fields.PlacesKept.{places-back}
 use Rattle.iox2_domain.specs.KeptPlaces.{KeepsPlaces}
 
-module _ {T U : Type 0} (f : Fields T U) (parts : HasParts f) (key : ℕ) (b : Book) (at : get f.books key ≡ Some b) (slot n : ℕ) (l : Loan T U)
+module _ {T U : Type 0} (f : Fields T U) (parts : HasParts f) (key : ℕ) (b : Book) (at : get f.books key ≡ Some b)
+    (slot n : ℕ) (l : Loan T U)
     (lies : lies_at f key slot ≡ Some (Lent_message n l)) (alone : holders_at b slot ≡ 1) where
   -- the book afterwards
   abbrev pub given : Book
@@ -51,7 +55,8 @@ module _ {T U : Type 0} (f : Fields T U) (parts : HasParts f) (key : ℕ) (b : B
 
   -- a slot in use is another, and was in use before
   still-in_use : (s : ℕ) → 0 < holders_at given s → (s ≢ slot) × (0 < holders_at b s)
-  still-in_use s some = (λ same. absurd (omega (arith, ap (holders_at given) same, free, some)), omega (arith, fewer-holders s, some))
+  still-in_use s some =
+      (λ same. absurd (omega (arith, ap (holders_at given) same, free, some)), omega (arith, fewer-holders s, some))
 
   pub given-aligned : IsAligned given
   given-aligned =
@@ -77,7 +82,8 @@ module _ {T U : Type 0} (f : Fields T U) (parts : HasParts f) (key : ℕ) (b : B
     | inr apart ↦ unchanged k s (book-others f key b given at keeps_slots k apart)
   ]
     where
-      alike : (s : ℕ) → holders_at given s ≡ holders_at b s → message_in given (contents_at f.contents key) s ≡ message_in b (contents_at f.contents key) s
+      alike : (s : ℕ) → holders_at given s ≡ holders_at b s
+          → message_in given (contents_at f.contents key) s ≡ message_in b (contents_at f.contents key) s
       alike s holders = rw holders refl
 
       unchanged : (k s : ℕ) → get left.books k ≡ get f.books k → lies_at left k s ≡ lies_at f k s
@@ -88,10 +94,16 @@ module _ {T U : Type 0} (f : Fields T U) (parts : HasParts f) (key : ℕ) (b : B
   was-number k s m has = elim (book-was f key b given at keeps_slots k has.book has.stands) [
     | inl is ↦
         let old = still-in_use s (subst (λ (c : Book). 0 < holders_at c s) is.1 has.in_use) in (
-          record { book = b; stands = ap (get f.books) is.0 ∙ at; in_use = old.1; number = ap (λ (c : Book). slice_index c.numbers s) (sym is.1) ∙ has.number },
+          record {
+            book = b;
+            stands = ap (get f.books) is.0 ∙ at;
+            in_use = old.1;
+            number = ap (λ (c : Book). slice_index c.numbers s) (sym is.1) ∙ has.number;
+          },
           λ both. old.0 both.1,
         )
-    | inr away ↦ (record { book = has.book; stands = away.1; in_use = has.in_use; number = has.number }, λ both. away.0 both.0)
+    | inr away ↦
+        (record { book = has.book; stands = away.1; in_use = has.in_use; number = has.number }, λ both. away.0 both.0)
   ]
 
   pub left-places : KeepsPlaces f left
@@ -107,12 +119,14 @@ module _ {T U : Type 0} (f : Fields T U) (parts : HasParts f) (key : ℕ) (b : B
   pub unnumbered : (k s : ℕ) → HasNumber left.books k s n → ⊥
   unnumbered k s has =
       let old = was-number k s n has in
-      old.1 (parts.numbered.one k key s slot n old.0 (has_number f.contents f.books key slot n (Lent_message n l) lies (eq-eqb n n refl)))
+      old.1 (parts.numbered.one k key s slot n old.0
+      (has_number f.contents f.books key slot n (Lent_message n l) lies (eq-eqb n n refl)))
 
   changes-slot : ChangesSlot f left key slot n
   changes-slot = record {
     others = others-lie;
-    before = λ m e. let both : Some (Lent_message n l) ≡ Some m = sym lies ∙ e in let is : Lent_message n l ≡ m = cc in ap (is_numbered n) (sym is) ∙ eq-eqb n n refl;
+    before = λ m e. let both : Some (Lent_message n l) ≡ Some m = sym lies ∙ e in let is : Lent_message n l ≡ m = cc in
+        ap (is_numbered n) (sym is) ∙ eq-eqb n n refl;
     after = λ m e. let both : None ≡ Some m = sym nothing ∙ e in absurd cc;
   }
 
@@ -124,10 +138,12 @@ module _ {T U : Type 0} (f : Fields T U) (parts : HasParts f) (key : ℕ) (b : B
   no-loan None e = refl
   no-loan (Some k) e =
       let there = loan-there left n k e in
-      absurd (unnumbered there.0 there.1 (has_number f.contents left.books there.0 there.1 n (Lent_message n k) there.2 (eq-eqb n n refl)))
+      absurd (unnumbered there.0 there.1
+      (has_number f.contents left.books there.0 there.1 n (Lent_message n k) there.2 (eq-eqb n n refl)))
 
   -- no entry is newly kept
-  pub left-entries : (m : ℕ) (entry : Entry T U) → entries_of (kept_of left) m ≡ Some entry → entries_of (kept_of f) m ≡ Some entry
+  pub left-entries : (m : ℕ) (entry : Entry T U) → entries_of (kept_of left) m ≡ Some entry
+      → entries_of (kept_of f) m ≡ Some entry
   left-entries m entry e = elim (cases_eq m n) [
     | inl same ↦
         let there = entry-there left m entry e in
@@ -154,13 +170,16 @@ module _ {T U : Type 0} (f : Fields T U) (parts : HasParts f) (key : ℕ) (b : B
   left-shapes = record {
     at = λ k s c m stands e.
         let found : lies_at left k s ≡ Some m = message_at-slot f.contents left.books k s c stands ∙ e in
-        let there = message_at-book f.contents f.books k s m (sym (others-lie k s (λ both. emptied k s m both found)) ∙ found) in
+        let there = message_at-book f.contents f.books k s m
+        (sym (others-lie k s (λ both. emptied k s m both found)) ∙ found) in
         parts.shapes.at k s there.0 m there.1 there.2;
   } where
     emptied : (k s : ℕ) (m : KeptMessage T U) → (k ≡ key) × (s ≡ slot) → lies_at left k s ≡ Some m → ⊥
     emptied k s m both found =
-        let clash : None ≡ Some m = sym nothing ∙ sym (ap (λ j. lies_at left key j) both.1) ∙ sym (ap (λ j. lies_at left j s) both.0) ∙ found in absurd cc
+        let clash : None ≡ Some m = sym nothing ∙ sym (ap (λ j. lies_at left key j) both.1)
+        ∙ sym (ap (λ j. lies_at left j s) both.0) ∙ found in absurd cc
 
   -- each loan that is left has one holder
   pub left-lone : HasLoneLoans f.books → HasLoneLoans left.books
-  left-lone lone = lone-counters f.books key b given.holders at lone (λ s. let fewer = fewer-holders s in omega (arith, fewer))
+  left-lone lone =
+      lone-counters f.books key b given.holders at lone (λ s. let fewer = fewer-holders s in omega (arith, fewer))

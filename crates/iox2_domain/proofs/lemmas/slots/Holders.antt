@@ -12,7 +12,8 @@ use Rattle.iox2_domain.specs.Ports.{PublisherFields}
 use Rattle.iox2_domain.specs.Fields.{Fields, is_book_of}
 use Rattle.iox2_domain.specs.Invariant.{holders_of, own_holders, is_publisher, is_loan_in}
 
-module _ (books : Slab Book) (key p : ℕ) (b : Book) (only : IsOnly (is_book_of p) books.slots) (at : get books key ≡ Some b) (mine : b.publisher ≡ p) where
+module _ (books : Slab Book) (key p : ℕ) (b : Book) (only : IsOnly (is_book_of p) books.slots)
+    (at : get books key ≡ Some b) (mine : b.publisher ≡ p) where
   -- a publisher's book is found by its id
   pub book-by_id : look_up (is_book_of p) books.slots ≡ Some b
   book-by_id = look_up-found (is_book_of p) books.slots key b only at (eq-eqb b.publisher p mine)
@@ -22,7 +23,8 @@ module _ (books : Slab Book) (key p : ℕ) (b : Book) (only : IsOnly (is_book_of
   book-holders slot = ap (λ o. option_map_or (λ (c : Book). holders_at c slot) o 0) book-by_id
 
 -- a publisher that is there has the slots in its lists
-pub own-slots : {T U : Type 0} (f : Fields T U) → ((p : ℕ) → IsOnly (is_publisher p) f.publishers) → (i : ℕ) (x : PublisherFields) → get_or f.publishers i None ≡ Some x
+pub own-slots : {T U : Type 0} (f : Fields T U) → ((p : ℕ) → IsOnly (is_publisher p) f.publishers)
+    → (i : ℕ) (x : PublisherFields) → get_or f.publishers i None ≡ Some x
     → (slot : ℕ) → own_holders f x.id slot ≡ times slot x.loans + times slot (x.history).items
 own-slots f only i x at slot =
     ap (λ o. option_map_or (λ (z : PublisherFields). times slot z.loans + times slot (z.history).items) o

@@ -1,5 +1,6 @@
 -- In each connection of a publisher that is gone, something waits or is borrowed.
-use Rattle.std.proofs.Common.{◌≡◌, ◌≢◌, ℕ, List, [], ◌∷◌, map, true, false, get_or, refl, ap, sym, subst, ◌∙◌, inl, inr, ◌⊎◌}
+use Rattle.std.proofs.Common.{◌≡◌, ◌≢◌, ℕ, List, [], ◌∷◌, map, true, false, get_or, refl, ap, sym, subst, ◌∙◌, inl, inr}
+use Rattle.std.proofs.Common.{◌⊎◌}
 use Rattle.std.proofs.lemmas.Bool.{eq-eqb, ne_eqb}
 use Rattle.std.specs.Prelude.{MatchOption}
 use Rattle.std.specs.declared.option.Option.{Option}
@@ -32,7 +33,8 @@ made others waiting borrowed = record { waiting = waiting; borrowed = borrowed; 
 -- what has numbers has some number
 pub some-number : (box : Mailbox) → has_numbers box ≡ true → (n : ℕ) × (contains (numbers_in box) n ≡ true)
 some-number box some = by box.others box.waiting box.borrowed some where
-  by : (others : List ChannelNumber) (waiting borrowed : List ℕ) → has_numbers (made others waiting borrowed) ≡ true → (n : ℕ) × (contains (numbers_in (made others waiting borrowed)) n ≡ true)
+  by : (others : List ChannelNumber) (waiting borrowed : List ℕ) → has_numbers (made others waiting borrowed) ≡ true
+      → (n : ℕ) × (contains (numbers_in (made others waiting borrowed)) n ≡ true)
   by [] [] [] e = absurd cc
   by [] [] (n ∷ ns) e = (n, contains_first n ns)
   by [] (n ∷ ns) borrowed e = (n, contains_first n _)
@@ -46,20 +48,24 @@ stands-nowhere publishers p none i x at same =
     let yes : is_publisher p x ≡ true = eq-eqb x.id p same in
     let clash : false ≡ true = sym no ∙ yes in cc
 
-module _ {T U : Type 0} (f : Fields T U) (p : ℕ) (gone : (i : ℕ) (x : PublisherFields) → get_or f.publishers i None ≡ Some x → x.id ≢ p) where
+module _ {T U : Type 0} (f : Fields T U) (p : ℕ)
+    (gone : (i : ℕ) (x : PublisherFields) → get_or f.publishers i None ≡ Some x → x.id ≢ p) where
   -- the machine doesn't know it either
   pub unknown : (state_of (kept_of f)).publishers p ≡ None
   unknown = ap (option_map (λ (z : Named Publisher). z.port))
-      (look_up-map (is_named p) (publisher_of f.books f.connections) f.publishers ∙ ap (option_map (publisher_of f.books f.connections)) nobody)
+      (look_up-map (is_named p) (publisher_of f.books f.connections) f.publishers
+      ∙ ap (option_map (publisher_of f.books f.connections)) nobody)
     where
       nobody : look_up (is_publisher p) f.publishers ≡ None
       nobody = look_up-nothing (is_publisher p) f.publishers (λ i x at. ne_eqb x.id p (gone i x at))
 
   -- its connections are its subscribers', which keep them for what is in them
-  pub left-numbers : HasParts f → IsWellFormed (state_of (kept_of f)) → (key : ℕ) (c : Link) → get f.connections key ≡ Some c → c.home.publisher ≡ p
+  pub left-numbers : HasParts f → IsWellFormed (state_of (kept_of f)) → (key : ℕ) (c : Link)
+      → get f.connections key ≡ Some c → c.home.publisher ≡ p
       → has_numbers ((state_of (kept_of f)).mailboxes p c.home.subscriber) ≡ true
   left-numbers parts well key c at mine = by (parts.linked.ends key c at) where
-    leads : (keys : List (Option ℕ)) (i : ℕ) → get_or keys i None ≡ Some key → occupant (receiver_ends f.connections keys) i ≡ Some p
+    leads : (keys : List (Option ℕ)) (i : ℕ) → get_or keys i None ≡ Some key
+        → occupant (receiver_ends f.connections keys) i ≡ Some p
     leads keys i has =
         occupant-receiver_ends f.connections keys i
         ∙ ap (publisher_of_key f.connections) has
@@ -71,15 +77,19 @@ module _ {T U : Type 0} (f : Fields T U) (p : ℕ) (gone : (i : ℕ) (x : Publis
     subscriber-shown i y stands =
         ap (option_map (λ (z : Named Subscriber). z.port))
         (look_up-map (is_named y.id) (subscriber_of f.books f.connections) f.subscribers
-        ∙ ap (option_map (subscriber_of f.books f.connections)) (look_up-found (is_subscriber y.id) f.subscribers i y (parts.subscriber_ids y.id) stands (eq-eqb y.id y.id refl)))
+        ∙ ap (option_map (subscriber_of f.books f.connections))
+        (look_up-found (is_subscriber y.id) f.subscribers i y (parts.subscriber_ids y.id) stands
+        (eq-eqb y.id y.id refl)))
 
     departed : (o : Option Publisher) → (P : Type 0) → (Q : Publisher → Type 0) → o ≡ None → MatchOption o P Q → P
     departed None P Q e h = h
     departed (Some x) P Q e h = absurd (let no : Some x ≡ None = e in cc)
 
-    numbers : (has : ReceiverHas f.subscribers key c) → has_numbers ((state_of (kept_of f)).mailboxes p has.subscriber.id) ≡ true
+    numbers : (has : ReceiverHas f.subscribers key c)
+        → has_numbers ((state_of (kept_of f)).mailboxes p has.subscriber.id) ≡ true
     numbers has = elim has.has [
-      | inl there ↦ departed _ _ _ unknown (its.ends_stand c.home.publisher_place p (leads y.keys c.home.publisher_place there))
+      | inl there ↦
+          departed _ _ _ unknown (its.ends_stand c.home.publisher_place p (leads y.keys c.home.publisher_place there))
       | inr expired ↦
           let place = listed-at y.expired key expired in
           its.expired_kept p (contains-occupants _ p (place.0, leads (map Some y.expired) place.0 place.1))
@@ -90,6 +100,7 @@ module _ {T U : Type 0} (f : Fields T U) (p : ℕ) (gone : (i : ℕ) (x : Publis
       its : SubscriberIsWellFormed (state_of (kept_of f)) y.id ((subscriber_of f.books f.connections y).port)
       its = well.subscribers y.id _ (subscriber-shown c.home.subscriber_place y has.stands)
 
-    by : SenderHas f.publishers key c ⊎ ReceiverHas f.subscribers key c → has_numbers ((state_of (kept_of f)).mailboxes p c.home.subscriber) ≡ true
+    by : SenderHas f.publishers key c ⊎ ReceiverHas f.subscribers key c
+        → has_numbers ((state_of (kept_of f)).mailboxes p c.home.subscriber) ≡ true
     by (inl has) = absurd (gone c.home.publisher_place has.publisher has.stands (has.is_its ∙ mine))
     by (inr has) = subst (λ (q : ℕ). has_numbers ((state_of (kept_of f)).mailboxes p q) ≡ true) has.is_its (numbers has)

@@ -20,7 +20,8 @@ use Rattle.iox2_domain.proofs.lemmas.slots.Holders.{book-holders, own-slots}
 abbrev pub BookCovers : {T U : Type 0} → Fields T U → PublisherFields → Type 0
 BookCovers f x = (b : Book) → get f.books x.book ≡ Some b → IsCovered x.id b.holders f.connections.slots
 
-module _ {T U : Type 0} (f : Fields T U) (parts : HasParts f) (i : ℕ) (x : PublisherFields) (here : get_or f.publishers i None ≡ Some x) where
+module _ {T U : Type 0} (f : Fields T U) (parts : HasParts f) (i : ℕ) (x : PublisherFields)
+    (here : get_or f.publishers i None ≡ Some x) where
   its_book : HasBook f x
   its_book = parts.books.publishers i x here
 
@@ -30,7 +31,8 @@ module _ {T U : Type 0} (f : Fields T U) (parts : HasParts f) (i : ℕ) (x : Pub
 
   -- what stands at its book's key is its own
   pub book-own : (b : Book) → get f.books x.book ≡ Some b → b.publisher ≡ x.id
-  book-own b at = let same : Some b ≡ Some its_book.book = sym at ∙ its_book.stands in let is : b ≡ its_book.book = cc in ap (λ (c : Book). c.publisher) is ∙ its_book.is_its
+  book-own b at = let same : Some b ≡ Some its_book.book = sym at ∙ its_book.stands in
+      let is : b ≡ its_book.book = cc in ap (λ (c : Book). c.publisher) is ∙ its_book.is_its
 
   -- and it has its book
   pub book-owned : IsOwned f.publishers x.book x.id
@@ -42,8 +44,15 @@ module _ {T U : Type 0} (f : Fields T U) (parts : HasParts f) (i : ℕ) (x : Pub
 
   -- its book counts how often each slot stands among the loans, in the history and in connections
   pub book-counts : (b : Book) → get f.books x.book ≡ Some b → (slot : ℕ)
-      → holders_at b slot ≡ times slot x.loans + times slot (x.history).items + sum_by (stands x.id slot) f.connections.slots
-  book-counts b at slot = omega (arith, book-holders f.books x.book x.id b (parts.books.one_each x.id) at (book-own b at) slot, own-slots f parts.publisher_ids i x here slot, parts.counted.at x.id slot)
+      → holders_at b slot ≡ times slot x.loans + times slot (x.history).items + sum_by
+      (stands x.id slot) f.connections.slots
+  book-counts b at slot =
+      omega (
+        arith,
+        book-holders f.books x.book x.id b (parts.books.one_each x.id) at (book-own b at) slot,
+        own-slots f parts.publisher_ids i x here slot,
+        parts.counted.at x.id slot,
+      )
 
   -- which covers those in connections
   pub book-covers : BookCovers f x
@@ -52,7 +61,8 @@ module _ {T U : Type 0} (f : Fields T U) (parts : HasParts f) (i : ℕ) (x : Pub
   }
 
 -- the connections of a domain have their books, which hold what stands in them
-module _ {T U : Type 0} (f : Fields T U) (parts : HasParts f) (key : ℕ) (c : Link) (at : get f.connections key ≡ Some c) where
+module _ {T U : Type 0} (f : Fields T U) (parts : HasParts f) (key : ℕ) (c : Link)
+    (at : get f.connections key ≡ Some c) where
   pub its-book : IsBookOf f.books c.home.publisher c.home.book
   its-book = parts.names.at key c at
 
@@ -65,11 +75,16 @@ module _ {T U : Type 0} (f : Fields T U) (parts : HasParts f) (key : ℕ) (c : L
       let is : its-book.book ≡ b = cc in
       let its : b.publisher ≡ c.home.publisher = ap (λ (d : Book). d.publisher) (sym is) ∙ its-book.is_its in
       held-at c.home.publisher b.holders f.connections key c (record {
-        at = λ slot. omega (arith, parts.counted.at c.home.publisher slot, book-holders f.books c.home.book c.home.publisher b (parts.books.one_each c.home.publisher) at_b its slot);
+        at = λ slot. omega (
+          arith,
+          parts.counted.at c.home.publisher slot,
+          book-holders f.books c.home.book c.home.publisher b (parts.books.one_each c.home.publisher) at_b its slot,
+        );
       }) at refl
 
 -- what was read at a place is what stands there
-pub read-there : {A : Type 0} (xs : List (Option A)) (i : ℕ) (x : A) (o : Option A) → get_or xs i None ≡ Some x → o ≡ get_or xs i o → get_or xs i None ≡ o
+pub read-there : {A : Type 0} (xs : List (Option A)) (i : ℕ) (x : A) (o : Option A) → get_or xs i None ≡ Some x
+    → o ≡ get_or xs i o → get_or xs i None ≡ o
 read-there {A} xs i x o at read = any xs i (within_if_some xs i x at) ∙ sym read where
   any : (ys : List (Option A)) (k : ℕ) → k < length ys → get_or ys k None ≡ get_or ys k o
   any [] k lt = absurd (omega arith)

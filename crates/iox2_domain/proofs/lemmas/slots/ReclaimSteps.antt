@@ -18,10 +18,13 @@ use Rattle.iox2_domain.proofs.lemmas.fields.Parts.{whole_of}
 use Rattle.iox2_domain.proofs.lemmas.fields.Views.{mailboxes-are}
 use Rattle.iox2_domain.proofs.lemmas.slots.LoneLoans.{lone-counters}
 use Rattle.iox2_domain.proofs.lemmas.slots.PublisherBooks.{book-own, book-owned}
-use Rattle.iox2_domain.proofs.lemmas.slots.RecountedLoans.{recounted_fields, recounted-kept, parts-recounted, recounted-is, recounted-entries, recounted-places, recounted-keeps}
+use Rattle.iox2_domain.proofs.lemmas.slots.RecountedLoans.{recounted_fields, recounted-kept, parts-recounted}
+use Rattle.iox2_domain.proofs.lemmas.slots.RecountedLoans.{recounted-is, recounted-entries, recounted-places}
+use Rattle.iox2_domain.proofs.lemmas.slots.RecountedLoans.{recounted-keeps}
 use mathlib.Core.Path.{fun_ext}
 
-module _ {T U : Type 0} (f : Fields T U) (sound : IsDomain f) (p key : ℕ) (b : Book) (at : get f.books key ≡ Some b) (mine : b.publisher ≡ p) (owned : IsOwned f.publishers key p)
+module _ {T U : Type 0} (f : Fields T U) (sound : IsDomain f) (p key : ℕ) (b : Book) (at : get f.books key ≡ Some b)
+    (mine : b.publisher ≡ p) (owned : IsOwned f.publishers key p)
     (holders : List ℕ) (new : Slab Link) (r : Reclaims p b.holders f.connections holders new) where
   -- the fields after a publisher reclaimed slots
   abbrev pub with_reclaimed : Fields T U
@@ -51,11 +54,17 @@ module _ {T U : Type 0} (f : Fields T U) (sound : IsDomain f) (p key : ℕ) (b :
 
 -- ---- a publisher that stands somewhere
 
-module _ {T U : Type 0} (before f : Fields T U) (same : f ≡ before) (sound : IsDomain f) (i : ℕ) (x : PublisherFields) (stands : get_or f.publishers i None ≡ Some x) where
+module _ {T U : Type 0} (before f : Fields T U) (same : f ≡ before) (sound : IsDomain f) (i : ℕ) (x : PublisherFields)
+    (stands : get_or f.publishers i None ≡ Some x) where
   -- with another book of other counters, and these connections
-  pub publisher-reclaims : (b book : Book) → get f.books x.book ≡ Some b → (new : Slab Link) → book ≡ with_counters b book.holders → Reclaims x.id b.holders f.connections book.holders new
-      → Reaches before (record f { connections = new; books = with_value f.books x.book book }) (state_of (kept_of before))
+  pub publisher-reclaims : (b book : Book) → get f.books x.book ≡ Some b → (new : Slab Link)
+      → book ≡ with_counters b book.holders → Reclaims x.id b.holders f.connections book.holders new
+      → Reaches before (record f { connections = new; books = with_value f.books x.book book })
+      (state_of (kept_of before))
   publisher-reclaims b book at new is r =
-      subst (λ (h : Fields T U). Reaches h (record f { connections = new; books = with_value f.books x.book book }) (state_of (kept_of h))) same
-      (subst (λ (c : Book). Reaches f (record f { connections = new; books = with_value f.books x.book c }) (state_of (kept_of f))) (sym is)
-      (reclaimed-reaches f sound x.id x.book b at (book-own f sound.parts i x stands b at) (book-owned f sound.parts i x stands) book.holders new r))
+      subst (λ (h : Fields T U). Reaches h (record f { connections = new; books = with_value f.books x.book book })
+      (state_of (kept_of h))) same
+      (subst (λ (c : Book). Reaches f (record f { connections = new; books = with_value f.books x.book c })
+      (state_of (kept_of f))) (sym is)
+      (reclaimed-reaches f sound x.id x.book b at (book-own f sound.parts i x stands b at)
+      (book-owned f sound.parts i x stands) book.holders new r))

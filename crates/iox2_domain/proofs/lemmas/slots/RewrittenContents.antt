@@ -13,7 +13,8 @@ use Rattle.iox2_domain.specs.Invariant.{HasBooks, HasRoomFrom}
 use Rattle.iox2_domain.proofs.lemmas.containers.SetRecords.{set-here, set-others}
 use Rattle.iox2_domain.proofs.lemmas.loans.Taken.{room-with_changed, length-with_changed}
 
-module _ {T U : Type 0} (f : Fields T U) (key : ℕ) (cs : List (ContentState T U)) (at_c : get_or f.contents key None ≡ Some cs) (slot : ℕ) (g : ContentState T U → ContentState T U) where
+module _ {T U : Type 0} (f : Fields T U) (key : ℕ) (cs : List (ContentState T U))
+    (at_c : get_or f.contents key None ≡ Some cs) (slot : ℕ) (g : ContentState T U → ContentState T U) where
   -- the contents with the slot's changed
   abbrev pub rewritten : List (Option (List (ContentState T U)))
   rewritten = slice_set f.contents key (Some (with_changed cs slot g))
@@ -25,7 +26,8 @@ module _ {T U : Type 0} (f : Fields T U) (key : ℕ) (cs : List (ContentState T 
   rewritten-others k away = set-others f.contents key cs (with_changed cs slot g) at_c k away
 
   -- what holds of the contents holds still
-  still : (P : List (ContentState T U) → Type 0) → (P cs → P (with_changed cs slot g)) → (k : ℕ) → IsSomeAnd (get_or f.contents k None) P → IsSomeAnd (get_or rewritten k None) P
+  still : (P : List (ContentState T U) → Type 0) → (P cs → P (with_changed cs slot g)) → (k : ℕ)
+      → IsSomeAnd (get_or f.contents k None) P → IsSomeAnd (get_or rewritten k None) P
   still P keeps k has = elim (cases_eq k key) [
     | inl here ↦
         let old : P cs = subst (λ o. IsSomeAnd o P) (ap (λ (j : ℕ). get_or f.contents j None) here ∙ at_c) has in
@@ -34,7 +36,8 @@ module _ {T U : Type 0} (f : Fields T U) (key : ℕ) (cs : List (ContentState T 
   ]
 
   -- each publisher has its book, where no slot loses room
-  pub rewritten-books : (b : Book) → get f.books key ≡ Some b → ((c : ContentState T U) → (g c).room ≡ c.room) → HasBooks f → HasBooks (record f { contents = rewritten })
+  pub rewritten-books : (b : Book) → get f.books key ≡ Some b → ((c : ContentState T U) → (g c).room ≡ c.room)
+      → HasBooks f → HasBooks (record f { contents = rewritten })
   rewritten-books b at_b roomy books = record {
     one_each = books.one_each;
     books = λ k e there. let is = books.books k e there in record {
@@ -48,7 +51,8 @@ module _ {T U : Type 0} (f : Fields T U) (key : ℕ) (cs : List (ContentState T 
       node = has.node;
       slots = has.slots;
       room = still (HasRoomFrom x.segment_start (slot_length x.segment_length * (f.config).units_per_element))
-          (room-with_changed g roomy cs slot x.segment_start (slot_length x.segment_length * (f.config).units_per_element)) x.book has.room;
+          (room-with_changed g roomy cs slot x.segment_start
+          (slot_length x.segment_length * (f.config).units_per_element)) x.book has.room;
     };
     no_others = λ k none. elim (cases_eq k key) [
       | inl here ↦ absurd (let no : None ≡ Some b = sym none ∙ ap (get f.books) here ∙ at_b in cc)

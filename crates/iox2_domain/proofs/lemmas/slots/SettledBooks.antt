@@ -1,5 +1,6 @@
 -- A book of a publisher that is gone is settled: it goes if no slot of it has a holder.
-use Rattle.std.proofs.Common.{◌≡◌, ◌≢◌, ℕ, zero, suc, ◌<◌, List, [], ◌∷◌, get_or, refl, ap, sym, subst, ◌∙◌, inl, inr, ◌⊎◌, arith}
+use Rattle.std.proofs.Common.{◌≡◌, ◌≢◌, ℕ, zero, suc, ◌<◌, List, [], ◌∷◌, get_or, refl, ap, sym, subst, ◌∙◌, inl, inr}
+use Rattle.std.proofs.Common.{◌⊎◌, arith}
 use Rattle.std.proofs.lemmas.Bool.{cases_eq, eq-eqb}
 use Rattle.std.specs.List.{All}
 use Rattle.std.specs.Option.{option_and_then}
@@ -18,7 +19,8 @@ use Rattle.iox2_domain.specs.Invariant.{HasLoneLoans, IsOwned, IsLeft, HasParts}
 use Rattle.iox2_domain.specs.Reaches.{Reaches}
 use Rattle.iox2_domain.specs.Shows.{KeepsEntries}
 use Rattle.iox2_domain.proofs.lemmas.fields.Parts.{whole_of}
-use Rattle.iox2_domain.proofs.lemmas.slots.BookGone.{gone-parts, gone-state, messages-same, gone-lone, gone-kept, gone-number}
+use Rattle.iox2_domain.proofs.lemmas.slots.BookGone.{gone-parts, gone-state, messages-same, gone-lone, gone-kept}
+use Rattle.iox2_domain.proofs.lemmas.slots.BookGone.{gone-number}
 use Rattle.iox2_domain.proofs.lemmas.slots.HeldMessages.{held-message-slot}
 use Rattle.iox2_domain.proofs.lemmas.slots.LeftConnections.{some-number, left-numbers}
 use Rattle.iox2_domain.proofs.lemmas.fields.PlacesKept.{places-back, places-still}
@@ -43,19 +45,24 @@ zero-or-some (zero ∷ xs) = elim (zero-or-some xs) [
   with_first all zero d lt = refl
   with_first all (suc k) d lt = all k d (omega (arith, lt))
 
-module _ {T U : Type 0} (f : Fields T U) (parts : HasParts f) (lone : HasLoneLoans f.books) (well : IsWellFormed (state_of (kept_of f))) (entries : KeepsEntries (kept_of f))
+module _ {T U : Type 0} (f : Fields T U) (parts : HasParts f) (lone : HasLoneLoans f.books)
+    (well : IsWellFormed (state_of (kept_of f))) (entries : KeepsEntries (kept_of f))
     (key : ℕ) (b : Book) (at : get f.books key ≡ Some b) (known : b.publisher < f.next_port)
     (gone : (i : ℕ) (x : PublisherFields) → get_or f.publishers i None ≡ Some x → x.id ≢ b.publisher)
-    (others : (k : ℕ) (c : Book) → k ≢ key → get f.books k ≡ Some c → IsOwned f.publishers k c.publisher ⊎ IsLeft f.next_port f.publishers c) where
+    (others : (k : ℕ) (c : Book) → k ≢ key → get f.books k ≡ Some c
+    → IsOwned f.publishers k c.publisher ⊎ IsLeft f.next_port f.publishers c) where
   -- where no slot has a holder, no connection of its publisher is left
-  pub unnamed : ((s : ℕ) → holders_at b s ≡ 0) → (k : ℕ) (c : Link) → get f.connections k ≡ Some c → c.home.publisher ≢ b.publisher
+  pub unnamed : ((s : ℕ) → holders_at b s ≡ 0) → (k : ℕ) (c : Link) → get f.connections k ≡ Some c
+      → c.home.publisher ≢ b.publisher
   unnamed unused k c there same =
-      let some = some-number ((state_of (kept_of f)).mailboxes b.publisher c.home.subscriber) (left-numbers f b.publisher gone parts well k c there same) in
+      let some = some-number ((state_of (kept_of f)).mailboxes b.publisher c.home.subscriber)
+      (left-numbers f b.publisher gone parts well k c there same) in
       let held : IsHeldMessage (state_of (kept_of f)) b.publisher some.0 = In_mailbox c.home.subscriber some.1 in
       let lying = held-message-slot f parts.counted parts.publisher_ids parts.plain b.publisher some.0 held in
       let has = lying.2 in
       let here : lying.0 ≡ key =
-      (parts.books.one_each b.publisher).one lying.0 key has.book b has.stands at (eq-eqb (has.book).publisher b.publisher lying.3) (eq-eqb b.publisher b.publisher refl) in
+      (parts.books.one_each b.publisher).one lying.0 key has.book b has.stands at
+      (eq-eqb (has.book).publisher b.publisher lying.3) (eq-eqb b.publisher b.publisher refl) in
       let both : Some has.book ≡ Some b = sym has.stands ∙ ap (get f.books) here ∙ at in
       let is : has.book ≡ b = cc in
       let used : 0 < holders_at has.book lying.1 = has.in_use in
@@ -71,7 +78,8 @@ module _ {T U : Type 0} (f : Fields T U) (parts : HasParts f) (lone : HasLoneLoa
         (gone-kept f parts key b at unused gone (unnamed unused) others)
         (subst IsWellFormed (sym (gone-state f parts key b at unused gone (unnamed unused))) well)
         (λ q m held.
-        let old = entries q m (subst (λ (s : State T U). IsHeldMessage s q m) (gone-state f parts key b at unused gone (unnamed unused)) held) in
+        let old = entries q m (subst (λ (s : State T U). IsHeldMessage s q m)
+        (gone-state f parts key b at unused gone (unnamed unused)) held) in
         (old.0, same-entries m ∙ old.1, old.2));
     state = gone-state f parts key b at unused gone (unnamed unused);
     entries = λ m entry e. sym (same-entries m) ∙ e;
@@ -89,13 +97,15 @@ module _ {T U : Type 0} (f : Fields T U) (parts : HasParts f) (lone : HasLoneLoa
     entries = λ m entry e. e;
     places = places-still;
   } where
-    kept : (k : ℕ) (c : Book) → get f.books k ≡ Some c → IsOwned f.publishers k c.publisher ⊎ IsLeft f.next_port f.publishers c
+    kept : (k : ℕ) (c : Book) → get f.books k ≡ Some c
+        → IsOwned f.publishers k c.publisher ⊎ IsLeft f.next_port f.publishers c
     kept k c there = elim (cases_eq k key) [
       | inr away ↦ others k c away there
       | inl same ↦
           let both : Some b ≡ Some c = sym at ∙ ap (get f.books) (sym same) ∙ there in
           let is : b ≡ c = cc in
-          inr (subst (IsLeft f.next_port f.publishers) is (record { known = known; absent = gone }, record { slot = s; in_use = some }))
+          inr (subst (IsLeft f.next_port f.publishers) is
+          (record { known = known; absent = gone }, record { slot = s; in_use = some }))
     ]
 
   -- all agrees afterwards, and the machine sees nothing of it
@@ -108,6 +118,7 @@ module _ {T U : Type 0} (f : Fields T U) (parts : HasParts f) (lone : HasLoneLoa
     same = let both : Some l.book ≡ Some b = sym l.stands ∙ at in cc
 
     by : Outcome b → Reaches f new (state_of (kept_of f))
-    by (inl all) = subst (λ (h : Fields T U). Reaches f h (state_of (kept_of f))) (sym all.1) (goes (all-zero b.holders all.0))
+    by (inl all) =
+        subst (λ (h : Fields T U). Reaches f h (state_of (kept_of f))) (sym all.1) (goes (all-zero b.holders all.0))
     by (inr some) = subst (λ (h : Fields T U). Reaches f h (state_of (kept_of f))) (sym some.1)
         (elim (zero-or-some b.holders) [ inl all ↦ absurd (some.0 all) | inr used ↦ stays used.0 used.1 ])

@@ -22,15 +22,19 @@ module _ {T U : Type 0} where
   cells_in o slot = cells_if (slice_get (contents_in o) slot)
 
   -- where there are some, so is a content
-  pub cells-some : (o : Option (ContentState T U)) → 0 < cells_if o → (content : ContentState T U) × (o ≡ Some content) × (0 < length content.cells)
+  pub cells-some : (o : Option (ContentState T U)) → 0 < cells_if o
+      → (content : ContentState T U) × (o ≡ Some content) × (0 < length content.cells)
   cells-some None some = absurd (omega arith)
   cells-some (Some content) some = (content, refl, some)
 
   -- what is read at the key
-  pub cells-read : (contents : List (Option (List (ContentState T U)))) (key slot : ℕ) (o : Option (List (ContentState T U))) → get_or contents key None ≡ o → cell_count contents key slot ≡ cells_in o slot
+  pub cells-read : (contents : List (Option (List (ContentState T U)))) (key slot : ℕ)
+      (o : Option (List (ContentState T U))) → get_or contents key None ≡ o
+      → cell_count contents key slot ≡ cells_in o slot
   cells-read contents key slot o at = ap (λ e. cells_in e slot) at
 
-module _ {T U : Type 0} (contents : List (Option (List (ContentState T U)))) (key : ℕ) (cs : List (ContentState T U)) (at : get_or contents key None ≡ Some cs)
+module _ {T U : Type 0} (contents : List (Option (List (ContentState T U)))) (key : ℕ) (cs : List (ContentState T U))
+    (at : get_or contents key None ≡ Some cs)
     (slot : ℕ) (g : ContentState T U → ContentState T U) where
   abbrev changed : List (Option (List (ContentState T U)))
   changed = slice_set contents key (Some (with_changed cs slot g))
@@ -51,15 +55,18 @@ module _ {T U : Type 0} (contents : List (Option (List (ContentState T U)))) (ke
   ]
 
   -- where the slot has some, what lay in it is changed to a content with cells
-  pub cells-here : 0 < cell_count changed key slot → (content : ContentState T U) × (slice_get cs slot ≡ Some content) × (0 < length (g content).cells)
+  pub cells-here : 0 < cell_count changed key slot
+      → (content : ContentState T U) × (slice_get cs slot ≡ Some content) × (0 < length (g content).cells)
   cells-here some = by (slice_get cs slot) refl where
     read : 0 < cells_if (slice_get (with_changed cs slot g) slot)
     read = subst (λ (n : ℕ). 0 < n) (cells-read changed key slot (Some (with_changed cs slot g)) changed-here) some
 
-    by : (o : Option (ContentState T U)) → slice_get cs slot ≡ o → (content : ContentState T U) × (slice_get cs slot ≡ Some content) × (0 < length (g content).cells)
+    by : (o : Option (ContentState T U)) → slice_get cs slot ≡ o
+        → (content : ContentState T U) × (slice_get cs slot ≡ Some content) × (0 < length (g content).cells)
     by None none =
         let same : with_changed cs slot g ≡ cs = ap (λ o. option_map_or (λ c. slice_set cs slot (g c)) o cs) none in
         absurd (omega (arith, read, ap (λ zs. cells_if (slice_get zs slot)) same, ap cells_if none))
     by (Some content) there =
-        let is : slice_get (with_changed cs slot g) slot ≡ Some (g content) = with_changed-here cs slot g content there (slice_get_within cs slot content there) in
+        let is : slice_get (with_changed cs slot g) slot ≡ Some (g content) =
+        with_changed-here cs slot g content there (slice_get_within cs slot content there) in
         (content, there, subst (λ (o : Option (ContentState T U)). 0 < cells_if o) is read)

@@ -7,21 +7,27 @@ use Rattle.iox2_machine.specs.declared.service_config.ServiceConfig.{ServiceConf
 use Rattle.iox2_domain.specs.Ports.{slot_length}
 
 -- where the size of some slots fits a machine word, that of each does
-pub slot-fits : (c : ServiceConfig) (slots len : ℕ) → segment_fits c slots len ≡ true → 0 < slots → len * c.units_per_element < 2 ^ 64
+pub slot-fits : (c : ServiceConfig) (slots len : ℕ) → segment_fits c slots len ≡ true → 0 < slots
+    → len * c.units_per_element < 2 ^ 64
 slot-fits c slots len fits some =
     let all : slots * len * c.units_per_element < 2 ^ 64 = ltb-true _ _ fits in
-    let same : slots * len * c.units_per_element ≡ slots * (len * c.units_per_element) = mul_assoc slots len c.units_per_element in
-    let turned : slots * (len * c.units_per_element) ≡ len * c.units_per_element * slots = mul_comm slots (len * c.units_per_element) in
-    let one : len * c.units_per_element ≤ len * c.units_per_element * slots = le-mul_of_pos_right (len * c.units_per_element) some in
+    let same : slots * len * c.units_per_element ≡ slots * (len * c.units_per_element) =
+    mul_assoc slots len c.units_per_element in
+    let turned : slots * (len * c.units_per_element) ≡ len * c.units_per_element * slots =
+    mul_comm slots (len * c.units_per_element) in
+    let one : len * c.units_per_element ≤ len * c.units_per_element * slots =
+    le-mul_of_pos_right (len * c.units_per_element) some in
     omega (arith, all, same, turned, one)
 
 -- so does that of several elements, where they fit a slot
-pub several-fit : (c : ServiceConfig) (slots most len : ℕ) → segment_fits c slots most ≡ true → 0 < slots → len ≤ slot_length most → 1 < len
+pub several-fit : (c : ServiceConfig) (slots most len : ℕ) → segment_fits c slots most ≡ true → 0 < slots
+    → len ≤ slot_length most → 1 < len
     → len * c.units_per_element < 2 ^ 64
 several-fit c slots most len fits some short several = by (nat_lt 1 most) refl where
   by : (b : Bool) → nat_lt 1 most ≡ b → len * c.units_per_element < 2 ^ 64
   by true e =
-      let long : slot_length most ≡ most = max_comm 1 most ∙ max-eq_left (let more = ltb-true 1 most e in omega arith) in
+      let long : slot_length most ≡ most =
+      max_comm 1 most ∙ max-eq_left (let more = ltb-true 1 most e in omega arith) in
       let low : len ≤ most = omega (arith, short, long) in
       let less : len * c.units_per_element ≤ most * c.units_per_element = mul-le-mul_right c.units_per_element low in
       let all : most * c.units_per_element < 2 ^ 64 = slot-fits c slots most fits some in

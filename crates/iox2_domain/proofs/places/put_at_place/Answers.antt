@@ -8,7 +8,8 @@ loop-places-preserved g c =
     let long : vec_len c.loop-places.places ≡ length c.loop-places.places.items = search rules in
     let low : length c.loop-places.places.items ≤ c.args.place = omega arith in
     record {
-      placed = ap (λ ys. placed ys c.args.place c.args.value) c.push_reserved.ensures.items ∙ placed-grown c.loop-places.places.items c.args.place c.args.value low ∙ c.loop-places.invariant.placed;
+      placed = ap (λ ys. placed ys c.args.place c.args.value) c.push_reserved.ensures.items
+          ∙ placed-grown c.loop-places.places.items c.args.place c.args.value low ∙ c.loop-places.invariant.placed;
       capacity = c.push_reserved.ensures.capacity ∙ c.loop-places.invariant.capacity;
     }
 

@@ -10,8 +10,11 @@ equal-some (Some m) n e = ap Some (eqb-true m n e)
 
 pub returns-then-eq : goal.returns-then-eq
 returns-then-eq c =
-    cleared-at c.args.key c.args.keys.now c.args.place (sym c.key_in.ensures ∙ equal-some c.key_in.result c.args.key (sym c.eq.ensures ∙ c.if-eq.true)) c.requires
+    cleared-at c.args.key c.args.keys.now c.args.place
+    (sym c.key_in.ensures ∙ equal-some c.key_in.result c.args.key (sym c.eq.ensures ∙ c.if-eq.true)) c.requires
 
 pub returns-else-eq : goal.returns-else-eq
 returns-else-eq c = not-there c.args.key c.args.keys.now (λ i at.
-    true≢false (sym (c.eq.ensures ∙ ap (λ (o : Option ℕ). option_eq nat_eq o (Some c.args.key)) (c.key_in.ensures ∙ sym (ap (λ (n : ℕ). get_or c.args.keys.now n None) (c.requires i at)) ∙ at) ∙ eq-eqb c.args.key c.args.key refl) ∙ c.if-eq.false))
+    true≢false (sym (c.eq.ensures ∙ ap (λ (o : Option ℕ). option_eq nat_eq o (Some c.args.key))
+    (c.key_in.ensures ∙ sym (ap (λ (n : ℕ). get_or c.args.keys.now n None) (c.requires i at)) ∙ at)
+    ∙ eq-eqb c.args.key c.args.key refl) ∙ c.if-eq.false))

@@ -10,11 +10,15 @@ use Rattle.iox2_messages.proofs.blocked_sends.give_up_send.Goals.{After-progress
 use Rattle.iox2_messages.proofs.blocked_sends.give_up_send.Goals as goal
 
 -- the delivery is taken up behind the receiver that it waits for
-abbrev behind_it : (g : _) (c : After-progress_behind-start g) (x : PublisherFields) → get_or c.args.state.now.publishers c.args.place None ≡ Some x → (b : BlockedDelivery) → x.blocked ≡ Some b
+abbrev behind_it : (g : _) (c : After-progress_behind-start g) (x : PublisherFields)
+    → get_or c.args.state.now.publishers c.args.place None ≡ Some x → (b : BlockedDelivery) → x.blocked ≡ Some b
     → CanTakeUp c.reclaim.new.state c.args.place c.progress_behind-start.result
 behind_it g c x at b waits =
-    may-take-up c.args.state.now c.reclaim.new.state c.reclaim.ensures.reaches c.reclaim.ensures.only c.args.place x at b waits _
-    (λ now. can-give_up c.reclaim.new.state c.reclaim.ensures.reaches.agrees c.args.place x now b waits _ (ap (λ (v : Progress). v.place) (c.progress_behind-start.ensures x b now waits)) (ap (λ (v : Progress). v.count) (c.progress_behind-start.ensures x b now waits))) (c.reclaim.ensures.reclaimed x at)
+    may-take-up c.args.state.now c.reclaim.new.state c.reclaim.ensures.reaches c.reclaim.ensures.only c.args.place x at
+    b waits _
+    (λ now. can-give_up c.reclaim.new.state c.reclaim.ensures.reaches.agrees c.args.place x now b waits _
+    (ap (λ (v : Progress). v.place) (c.progress_behind-start.ensures x b now waits))
+    (ap (λ (v : Progress). v.count) (c.progress_behind-start.ensures x b now waits))) (c.reclaim.ensures.reclaimed x at)
 
 pub go_on-requires : goal.go_on-requires
 go_on-requires g c =
@@ -24,5 +28,8 @@ go_on-requires g c =
 pub returns-clause-goes : goal.returns-clause-goes
 returns-clause-goes g c = λ x b at waits.
     let may = behind_it g (goal.at.returns-clause-goes g c).After-progress_behind-start x at b waits in
-    rw c.of.ensures.same (gives-up-as (answers_of g.F.BackpressureFn.allows g.G.DegradationFn.allows c.args.boxes.now.boxes) c.args.state.now c.reclaim.new.state c.go_on.new.state c.requires.agrees c.reclaim.ensures.reaches c.args.place x at may.stands b waits c.go_on.result _
+    rw c.of.ensures.same
+    (gives-up-as (answers_of g.F.BackpressureFn.allows g.G.DegradationFn.allows c.args.boxes.now.boxes) c.args.state.now
+    c.reclaim.new.state c.go_on.new.state c.requires.agrees c.reclaim.ensures.reaches c.args.place x at may.stands b
+    waits c.go_on.result _
     (c.progress_behind-start.ensures x b may.stands waits) (c.go_on.ensures may))

@@ -10,7 +10,9 @@ pub returns-in_default : goal.returns-in_default
 returns-in_default g c =
     let old = c.args.state.now in (
       λ no. absurd cc,
-      λ held. let none : None ≡ Some held.0 = sym (unknown old c.args.publisher (stands-nowhere old.publishers c.args.publisher c.in_default.ensures)) ∙ held.2 in absurd cc,
+      λ held. let none : None ≡ Some held.0 =
+          sym (unknown old c.args.publisher (stands-nowhere old.publishers c.args.publisher c.in_default.ensures))
+          ∙ held.2 in absurd cc,
     )
 
 pub waits_with-requires : goal.waits_with-requires
@@ -18,5 +20,7 @@ waits_with-requires g c = record { agrees = c.requires; publisher = c.in-Some.en
 
 pub returns : goal.returns
 returns g c =
-    subst (λ (p : ℕ). IsTrue c.waits_with.result ↔ HoldsBlocked (state_of (kept_of c.args.state.now)) p c.args.number) c.in-Some.ensures.2
-    (c.waits_with.ensures (record { agrees = c.requires; publisher = c.in-Some.ensures.0; stands = c.in-Some.ensures.1 }))
+    subst (λ (p : ℕ). IsTrue c.waits_with.result ↔ HoldsBlocked (state_of (kept_of c.args.state.now)) p c.args.number)
+    c.in-Some.ensures.2
+    (c.waits_with.ensures
+    (record { agrees = c.requires; publisher = c.in-Some.ensures.0; stands = c.in-Some.ensures.1 }))

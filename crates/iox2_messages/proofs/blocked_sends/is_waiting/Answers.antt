@@ -21,10 +21,14 @@ returns g c =
     let old = c.args.state.now in
     let found = c.in-Some.ensures in
     c.waits_at.ensures found.0 found.1
-    ∙ waits-alike (blocked_send (number_in_slot old.books (found.0).id) (sender_ends old.connections (found.0).keys)) (found.0).blocked
-    ∙ sym (ap (λ o. option_map_or (λ (x : Publisher). is_some x.blocked) o false) (ap (state_of (kept_of old)).publishers (sym found.2) ∙ publisher-stands old c.requires.parts c.in-Some.place found.0 found.1))
+    ∙ waits-alike (blocked_send (number_in_slot old.books (found.0).id) (sender_ends old.connections (found.0).keys))
+    (found.0).blocked
+    ∙ sym (ap (λ o. option_map_or (λ (x : Publisher). is_some x.blocked) o false)
+    (ap (state_of (kept_of old)).publishers (sym found.2)
+    ∙ publisher-stands old c.requires.parts c.in-Some.place found.0 found.1))
 
 pub returns-in_default : goal.returns-in_default
 returns-in_default g c =
     let old = c.args.state.now in
-    sym (ap (λ o. option_map_or (λ (x : Publisher). is_some x.blocked) o false) (unknown old c.args.publisher (stands-nowhere old.publishers c.args.publisher c.in_default.ensures)))
+    sym (ap (λ o. option_map_or (λ (x : Publisher). is_some x.blocked) o false)
+    (unknown old c.args.publisher (stands-nowhere old.publishers c.args.publisher c.in_default.ensures)))

@@ -6,4 +6,5 @@ use Rattle.iox2_messages.proofs.changed_channels.change_at_keys.Given as goal
 
 -- the channels at the keys so far are changed
 abbrev pub invariant-loop-index : goal.invariant-loop-index
-invariant-loop-index g l = ChangesLinks (changed_link l.change l.channel l.expected) (HasKeyBelow (map g.K.ListedKey.key_of l.keys) l.index) l.fn.connections l.connections
+invariant-loop-index g l = ChangesLinks (changed_link l.change l.channel l.expected)
+    (HasKeyBelow (map g.K.ListedKey.key_of l.keys) l.index) l.fn.connections l.connections

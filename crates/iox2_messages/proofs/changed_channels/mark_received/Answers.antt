@@ -8,7 +8,8 @@ pub mark_end-requires : goal.mark_end-requires
 mark_end-requires g c = c.loop-publisher_place.invariant.agrees
 
 pub loop-publisher_place-preserved : goal.loop-publisher_place-preserved
-loop-publisher_place-preserved g c = changes-trans c.args.state.now c.loop-publisher_place.state c.mark_end.new.state c.loop-publisher_place.invariant c.mark_end.ensures
+loop-publisher_place-preserved g c = changes-trans c.args.state.now c.loop-publisher_place.state c.mark_end.new.state
+    c.loop-publisher_place.invariant c.mark_end.ensures
 
 pub returns : goal.returns
 returns g c = c.loop-publisher_place.invariant

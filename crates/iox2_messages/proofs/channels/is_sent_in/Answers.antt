@@ -6,4 +6,6 @@ use Rattle.iox2_messages.proofs.channels.is_sent_in.Goals as goal
 pub returns : goal.returns
 returns g c = λ x at.
     c.is_in_state.ensures
-    ∙ asked-sent _ c.args.state.now c.state.view_is c.requires.agrees c.args.place c.args.channel (is_in_state c.args.channel_state) c.args.connection c.deref.result.now c.key_at-key.result c.deref.ensures.value c.key_at-key.ensures x at
+    ∙ asked-sent _ c.args.state.now c.state.view_is c.requires.agrees c.args.place c.args.channel
+    (is_in_state c.args.channel_state) c.args.connection c.deref.result.now c.key_at-key.result c.deref.ensures.value
+    c.key_at-key.ensures x at

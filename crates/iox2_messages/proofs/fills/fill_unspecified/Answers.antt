@@ -8,21 +8,34 @@ pub mark_written-requires : goal.mark_written-requires
 mark_written-requires g c = let at = c.requires.lies in (at.book, at.stands, (at.loan_slot).in_bounds)
 
 pub contents_mut-contents-requires : goal.contents_mut-contents-requires
-contents_mut-contents-requires g c = contents-still {T = g.row.T.Denot} {U = g.row.U.Denot} _ c.requires.agrees _ _ _ _ c.requires.lies _ (c.mark_written.ensures _ (c.requires.lies).stands)
+contents_mut-contents-requires g c = contents-still {T = g.row.T.Denot} {U = g.row.U.Denot} _ c.requires.agrees _ _ _ _
+    c.requires.lies _ (c.mark_written.ensures _ (c.requires.lies).stands)
 
 pub write_unspecified-requires : goal.write_unspecified-requires
 write_unspecified-requires g c =
-    all-writable {T = g.row.T.Denot} {U = g.row.U.Denot} _ c.requires.agrees _ _ _ _ c.requires.lies _ (c.mark_written.ensures _ (c.requires.lies).stands) _ c.contents_mut-contents.ensures.value c.requires.live c.requires.several
+    all-writable {T = g.row.T.Denot} {U = g.row.U.Denot} _ c.requires.agrees _ _ _ _ c.requires.lies _
+    (c.mark_written.ensures _ (c.requires.lies).stands) _ c.contents_mut-contents.ensures.value c.requires.live
+    c.requires.several
 
 pub values-requires : goal.values-requires
 values-requires g c =
-    filled-readable {T = g.row.T.Denot} {U = g.row.U.Denot} c.contents_mut-contents.result.now c.write_unspecified.new.self c.args.loan.now.slot c.write_unspecified.ensures.0 c.write_unspecified.ensures.1 (all-writable {T = g.row.T.Denot} {U = g.row.U.Denot} _ c.requires.agrees _ _ _ _ c.requires.lies _ (c.mark_written.ensures _ (c.requires.lies).stands) _ c.contents_mut-contents.ensures.value c.requires.live c.requires.several)
+    filled-readable {T = g.row.T.Denot} {U = g.row.U.Denot} c.contents_mut-contents.result.now
+    c.write_unspecified.new.self c.args.loan.now.slot c.write_unspecified.ensures.0 c.write_unspecified.ensures.1
+    (all-writable {T = g.row.T.Denot} {U = g.row.U.Denot} _ c.requires.agrees _ _ _ _ c.requires.lies _
+    (c.mark_written.ensures _ (c.requires.lies).stands) _ c.contents_mut-contents.ensures.value c.requires.live
+    c.requires.several)
 
 pub returns : goal.returns
 returns g c = (
   c.write_unspecified.ensures.0,
-  many-written {T = g.row.T.Denot} {U = g.row.U.Denot} _ c.requires.agrees _ _ _ _ c.requires.lies _ (c.mark_written.ensures _ (c.requires.lies).stands) _ c.contents_mut-contents.ensures.value c.requires.live c.write_unspecified.ensures.0 c.write_unspecified.new.self c.write_unspecified.ensures.1,
+  many-written {T = g.row.T.Denot} {U = g.row.U.Denot} _ c.requires.agrees _ _ _ _ c.requires.lies _
+      (c.mark_written.ensures _ (c.requires.lies).stands) _ c.contents_mut-contents.ensures.value c.requires.live
+      c.write_unspecified.ensures.0 c.write_unspecified.new.self c.write_unspecified.ensures.1,
   subst (λ (values : List g.row.T.Denot). IsSome c.start_of.result ↔ 0 < length values)
-      (filled-read {T = g.row.T.Denot} {U = g.row.U.Denot} c.contents_mut-contents.result.now c.write_unspecified.new.self c.args.loan.now.slot c.write_unspecified.ensures.0 c.write_unspecified.ensures.1 (all-writable {T = g.row.T.Denot} {U = g.row.U.Denot} _ c.requires.agrees _ _ _ _ c.requires.lies _ (c.mark_written.ensures _ (c.requires.lies).stands) _ c.contents_mut-contents.ensures.value c.requires.live c.requires.several) c.values.result.now c.values.ensures)
+      (filled-read {T = g.row.T.Denot} {U = g.row.U.Denot} c.contents_mut-contents.result.now
+      c.write_unspecified.new.self c.args.loan.now.slot c.write_unspecified.ensures.0 c.write_unspecified.ensures.1
+      (all-writable {T = g.row.T.Denot} {U = g.row.U.Denot} _ c.requires.agrees _ _ _ _ c.requires.lies _
+      (c.mark_written.ensures _ (c.requires.lies).stands) _ c.contents_mut-contents.ensures.value c.requires.live
+      c.requires.several) c.values.result.now c.values.ensures)
       c.start_of.ensures,
 )

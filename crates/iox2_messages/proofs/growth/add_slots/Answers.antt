@@ -8,4 +8,6 @@ clear_unused-requires g c = rw ((c.in_ok-grow.ensures.grown).grown, length-appen
 
 pub returns-clause-contents : goal.returns-clause-contents
 returns-clause-contents g c =
-    grows-contents {T = g.row.T.Denot} {U = g.row.U.Denot} c.args.book.now c.args.contents.now c.grow.new.self c.clear_unused.new.contents c.args.more c.args.room c.args.in_lists c.args.lists c.requires.shaped c.requires.lists c.in_ok-grow.ensures.grown c.clear_unused.ensures
+    grows-contents {T = g.row.T.Denot} {U = g.row.U.Denot} c.args.book.now c.args.contents.now c.grow.new.self
+    c.clear_unused.new.contents c.args.more c.args.room c.args.in_lists c.args.lists c.requires.shaped c.requires.lists
+    c.in_ok-grow.ensures.grown c.clear_unused.ensures

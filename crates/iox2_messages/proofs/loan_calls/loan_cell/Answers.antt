@@ -4,12 +4,20 @@ use Rattle.iox2_messages.proofs.loan_calls.loan_cell.Goals as goal
 
 pub cell-requires : goal.cell-requires
 cell-requires g c =
-    cell-allowed {T = g.row.T.Denot} {U = g.row.U.Denot} c.args.state.now _ c.state.view_is c.requires.agrees c.args.loan.now.publisher c.args.loan.now.number
-    c.args.loan.now.book c.args.loan.now.slot c.requires.lies c.index.result.now c.index.ensures c.in-Some.contents c.in-Some.is
-    (one-cell {T = g.row.T.Denot} {U = g.row.U.Denot} c.args.state.now c.requires.agrees c.args.loan.now.publisher c.args.loan.now.number c.args.loan.now.book c.args.loan.now.slot c.requires.lies c.requires.fixed_size c.requires.single) c.requires.live
+    cell-allowed {T = g.row.T.Denot} {U = g.row.U.Denot} c.args.state.now _ c.state.view_is c.requires.agrees
+    c.args.loan.now.publisher c.args.loan.now.number
+    c.args.loan.now.book c.args.loan.now.slot c.requires.lies c.index.result.now c.index.ensures c.in-Some.contents
+    c.in-Some.is
+    (one-cell {T = g.row.T.Denot} {U = g.row.U.Denot} c.args.state.now c.requires.agrees c.args.loan.now.publisher
+    c.args.loan.now.number c.args.loan.now.book c.args.loan.now.slot c.requires.lies c.requires.fixed_size
+    c.requires.single) c.requires.live
 
 pub returns : goal.returns
 returns g c =
-    cell-shown {T = g.row.T.Denot} {U = g.row.U.Denot} c.args.state.now _ c.state.view_is c.requires.agrees c.args.loan.now.publisher c.args.loan.now.number
-    c.args.loan.now.book c.args.loan.now.slot c.requires.lies c.index.result.now c.index.ensures c.in-Some.contents c.in-Some.is
-    (one-cell {T = g.row.T.Denot} {U = g.row.U.Denot} c.args.state.now c.requires.agrees c.args.loan.now.publisher c.args.loan.now.number c.args.loan.now.book c.args.loan.now.slot c.requires.lies c.requires.fixed_size c.requires.single) c.requires.live c.cell.result.now c.cell.ensures
+    cell-shown {T = g.row.T.Denot} {U = g.row.U.Denot} c.args.state.now _ c.state.view_is c.requires.agrees
+    c.args.loan.now.publisher c.args.loan.now.number
+    c.args.loan.now.book c.args.loan.now.slot c.requires.lies c.index.result.now c.index.ensures c.in-Some.contents
+    c.in-Some.is
+    (one-cell {T = g.row.T.Denot} {U = g.row.U.Denot} c.args.state.now c.requires.agrees c.args.loan.now.publisher
+    c.args.loan.now.number c.args.loan.now.book c.args.loan.now.slot c.requires.lies c.requires.fixed_size
+    c.requires.single) c.requires.live c.cell.result.now c.cell.ensures

@@ -15,13 +15,15 @@ loop-at-preserved g c =
     elim c.if-slot-start.branch [
       | then-slot-start w ↦
           rw (w.contents-is, w.cleared-is) (
-            cleared-next {T = g.row.T.Denot} {U = g.row.U.Denot} c.args.slots.now c.args.start c.args.contents.now c.loop-at.at c.loop-at.contents w.clear.new.self c.loop-at-test.true
+            cleared-next {T = g.row.T.Denot} {U = g.row.U.Denot} c.args.slots.now c.args.start c.args.contents.now
+                c.loop-at.at c.loop-at.contents w.clear.new.self c.loop-at-test.true
                 c.loop-at.invariant.0 w.if-slot-start.true w.clear.ensures,
             omega (arith, few),
           )
       | else-slot-start w ↦
           rw (w.contents-is, w.cleared-is) (
-            cleared-passed {T = g.row.T.Denot} {U = g.row.U.Denot} c.args.slots.now c.args.start c.args.contents.now c.loop-at.at c.loop-at.contents c.loop-at.invariant.0 w.if-slot-start.false,
+            cleared-passed {T = g.row.T.Denot} {U = g.row.U.Denot} c.args.slots.now c.args.start c.args.contents.now
+                c.loop-at.at c.loop-at.contents c.loop-at.invariant.0 w.if-slot-start.false,
             omega (arith, few),
           )
     ]

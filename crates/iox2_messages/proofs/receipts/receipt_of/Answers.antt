@@ -9,9 +9,11 @@ use Rattle.iox2_messages.proofs.receipts.receipt_of.Goals as goal
 pub returns-clause-same_connections : goal.returns-clause-same_connections
 returns-clause-same_connections c =
     ap (λ (slots : List (Option Link)). let s : Slab Link = record c.args.connections.now { slots = slots } in s)
-    (ap (slice_set c.args.connections.now.slots c.args.taken.connection) (sym c.index_mut-connection.ensures.value) ∙ set-get_or c.args.connections.now.slots c.args.taken.connection None)
+    (ap (slice_set c.args.connections.now.slots c.args.taken.connection) (sym c.index_mut-connection.ensures.value)
+    ∙ set-get_or c.args.connections.now.slots c.args.taken.connection None)
 
 pub returns-clause-same_books : goal.returns-clause-same_books
 returns-clause-same_books c =
     ap (λ (slots : List (Option Book)). let s : Slab Book = record c.args.books.now { slots = slots } in s)
-    (ap (slice_set c.args.books.now.slots c.home-home.result.book) (sym c.index_mut-book.ensures.value) ∙ set-get_or c.args.books.now.slots c.home-home.result.book None)
+    (ap (slice_set c.args.books.now.slots c.home-home.result.book) (sym c.index_mut-book.ensures.value)
+    ∙ set-get_or c.args.books.now.slots c.home-home.result.book None)

@@ -6,24 +6,28 @@ pub index-requires : goal.index-requires
 index-requires g c =
     let long : vec_len c.state.inside.contents ≡ length c.state.inside.contents.items = search rules in
     let within : c.args.sample.now.book < length c.state.inside.contents.items =
-    book-within _ c.args.state.now c.args.sample.now.subscriber c.args.sample.now.number (record { connection = c.requires.lies.0; book = c.args.sample.now.book; slot = c.args.sample.now.slot })
+    book-within _ c.args.state.now c.args.sample.now.subscriber c.args.sample.now.number
+    (record { connection = c.requires.lies.0; book = c.args.sample.now.book; slot = c.args.sample.now.slot })
     (record { same = c.state.view_is; sound = c.requires.agrees; lies = c.requires.lies.1 }) in
     omega arith
 
 pub unreachable-requires : goal.unreachable-requires
 unreachable-requires g c =
-    no-contents _ c.args.state.now c.args.sample.now.subscriber c.args.sample.now.number (record { connection = c.requires.lies.0; book = c.args.sample.now.book; slot = c.args.sample.now.slot })
+    no-contents _ c.args.state.now c.args.sample.now.subscriber c.args.sample.now.number
+    (record { connection = c.requires.lies.0; book = c.args.sample.now.book; slot = c.args.sample.now.slot })
     (record { same = c.state.view_is; sound = c.requires.agrees; lies = c.requires.lies.1 })
     c.index.result.now c.index.ensures c.in_default.is
 
 pub user_header-requires : goal.user_header-requires
 user_header-requires g c =
-    user_header-there _ c.args.state.now c.args.sample.now.subscriber c.args.sample.now.number (record { connection = c.requires.lies.0; book = c.args.sample.now.book; slot = c.args.sample.now.slot })
+    user_header-there _ c.args.state.now c.args.sample.now.subscriber c.args.sample.now.number
+    (record { connection = c.requires.lies.0; book = c.args.sample.now.book; slot = c.args.sample.now.slot })
     (record { same = c.state.view_is; sound = c.requires.agrees; lies = c.requires.lies.1 })
     c.index.result.now c.index.ensures c.in-Some.contents c.in-Some.is
 
 pub returns : goal.returns
 returns g c =
-    user_header-read _ c.args.state.now c.args.sample.now.subscriber c.args.sample.now.number (record { connection = c.requires.lies.0; book = c.args.sample.now.book; slot = c.args.sample.now.slot })
+    user_header-read _ c.args.state.now c.args.sample.now.subscriber c.args.sample.now.number
+    (record { connection = c.requires.lies.0; book = c.args.sample.now.book; slot = c.args.sample.now.slot })
     (record { same = c.state.view_is; sound = c.requires.agrees; lies = c.requires.lies.1 })
     c.index.result.now c.index.ensures c.in-Some.contents c.in-Some.is c.user_header.result.now c.user_header.ensures

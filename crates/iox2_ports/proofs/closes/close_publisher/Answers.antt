@@ -8,13 +8,19 @@ close_publisher-requires-clause-agrees g c = c.unmark_publisher.ensures.clears.c
 
 pub close_publisher-requires-clause-stands : goal.close_publisher-requires-clause-stands
 close_publisher-requires-clause-stands g c =
-    let there = c.requires.stands in
-    (there.0, (marks-publisher c.args.state.now c.unmark_publisher.new.state c.unmark_publisher.ensures.clears.changes c.args.place there.0 there.1).0)
+    let there = c.requires.stands in (
+      there.0,
+      (marks-publisher c.args.state.now c.unmark_publisher.new.state c.unmark_publisher.ensures.clears.changes
+          c.args.place there.0 there.1).0,
+    )
 
 pub close_publisher-requires-clause-unblocked : goal.close_publisher-requires-clause-unblocked
 close_publisher-requires-clause-unblocked g c = λ x at.
-    c.requires.unblocked x (sym (ap (λ (f : Fields g.row.T.Denot g.row.U.Denot). slice_index_or f.publishers c.args.place None) c.unmark_publisher.ensures.clears.changes.fields) ∙ at)
+    c.requires.unblocked x
+    (sym (ap (λ (f : Fields g.row.T.Denot g.row.U.Denot). slice_index_or f.publishers c.args.place None)
+    c.unmark_publisher.ensures.clears.changes.fields) ∙ at)
 
 pub returns : goal.returns
 returns g c = λ x at.
-    closed-publisher c.args.state.now c.unmark_publisher.new.state c.unmark_publisher.ensures.clears.changes c.args.place x at c.close_publisher.new.state c.close_publisher.ensures
+    closed-publisher c.args.state.now c.unmark_publisher.new.state c.unmark_publisher.ensures.clears.changes
+    c.args.place x at c.close_publisher.new.state c.close_publisher.ensures

@@ -9,8 +9,10 @@ close_subscriber-requires-clause-agrees g c = c.unmark_subscriber.ensures.clears
 
 pub close_subscriber-requires-clause-stands : goal.close_subscriber-requires-clause-stands
 close_subscriber-requires-clause-stands g c =
-    subst (λ (f : Fields g.row.T.Denot g.row.U.Denot). IsSome (slice_index_or f.subscribers c.args.place None)) (sym c.unmark_subscriber.ensures.clears.changes.fields) c.requires.stands
+    subst (λ (f : Fields g.row.T.Denot g.row.U.Denot). IsSome (slice_index_or f.subscribers c.args.place None))
+    (sym c.unmark_subscriber.ensures.clears.changes.fields) c.requires.stands
 
 pub returns : goal.returns
 returns g c = λ y at.
-    closed-subscriber c.args.state.now c.unmark_subscriber.new.state c.unmark_subscriber.ensures.clears.changes c.args.place y at c.close_subscriber.new.state c.close_subscriber.ensures
+    closed-subscriber c.args.state.now c.unmark_subscriber.new.state c.unmark_subscriber.ensures.clears.changes
+    c.args.place y at c.close_subscriber.new.state c.close_subscriber.ensures

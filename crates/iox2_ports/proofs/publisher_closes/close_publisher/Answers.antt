@@ -9,4 +9,5 @@ settle_book_if_left-requires g c =
 pub returns : goal.returns
 returns g c = λ x at.
     let left = c.leave_domain-key.ensures x at in
-    closes-freed x.book c.args.state.now c.leave_domain-key.new.state _ left.1 c.leave_domain-key.result left.0 c.settle_book_if_left.new.state c.settle_book_if_left.ensures.kept
+    closes-freed x.book c.args.state.now c.leave_domain-key.new.state _ left.1 c.leave_domain-key.result left.0
+    c.settle_book_if_left.new.state c.settle_book_if_left.ensures.kept

@@ -27,6 +27,12 @@ pub returns : goal.returns
 returns g c = λ x at.
     let both : Some c.requires.stands.0 ≡ Some x = sym c.requires.stands.1 ∙ at in
     let is : c.requires.stands.0 ≡ x = cc in
-    publisher-first-updates (answers_of g.F.BackpressureFn.allows g.G.DegradationFn.allows c.args.boxes.now.boxes) c.args.state.now c.update_publisher-failure.new.state _ c.args.place c.args.publisher c.update_publisher-failure.result x
+    publisher-first-updates (answers_of g.F.BackpressureFn.allows g.G.DegradationFn.allows c.args.boxes.now.boxes)
+    c.args.state.now c.update_publisher-failure.new.state _ c.args.place c.args.publisher
+    c.update_publisher-failure.result x
     (c.update_publisher-failure.ensures x at) at (sym (ap (λ (z : PublisherFields). z.id) is) ∙ c.requires.stands.2)
-    (λ k. record (c.state.view_is k) { warnings = (c.warn_of_failure.ensures ∙ ap (λ (f : Fields g.row.T.Denot g.row.U.Denot). warning_ring (failure_warned (PublisherPartlyConnected c.args.publisher) c.update_publisher-failure.result f.warnings.items) warning_limit) c.state.view_is) k })
+    (λ k. record (c.state.view_is k) {
+      warnings = (c.warn_of_failure.ensures ∙ ap (λ (f : Fields g.row.T.Denot g.row.U.Denot).
+          warning_ring (failure_warned (PublisherPartlyConnected c.args.publisher) c.update_publisher-failure.result
+          f.warnings.items) warning_limit) c.state.view_is) k;
+    })

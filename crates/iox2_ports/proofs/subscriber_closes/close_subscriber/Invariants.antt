@@ -8,10 +8,13 @@ use Rattle.iox2_ports.proofs.subscriber_closes.close_subscriber.Given as goal
 
 -- the expired keys below the index are left, and all keys at places
 abbrev pub invariant-loop-index : goal.invariant-loop-index
-invariant-loop-index g l = (sound : IsDomain l.fn.state) (y : SubscriberFields) (at : slice_index_or l.fn.state.subscribers l.place None ≡ Some y)
+invariant-loop-index g l = (sound : IsDomain l.fn.state) (y : SubscriberFields)
+    (at : slice_index_or l.fn.state.subscribers l.place None ≡ Some y)
     → IsClosing {T = g.row.T.Denot} {U = g.row.U.Denot} l.fn.state sound l.place y at (ExpiredLeft l.index) l.state
 
 -- the keys from the place on are left
 abbrev pub invariant-loop-publisher_place : goal.invariant-loop-publisher_place
-invariant-loop-publisher_place g l = (sound : IsDomain l.fn.state) (y : SubscriberFields) (at : slice_index_or l.fn.state.subscribers l.place None ≡ Some y)
-    → IsClosing {T = g.row.T.Denot} {U = g.row.U.Denot} l.fn.state sound l.place y at (KeysLeft l.publisher_place l.publisher_place-end) l.state
+invariant-loop-publisher_place g l = (sound : IsDomain l.fn.state) (y : SubscriberFields)
+    (at : slice_index_or l.fn.state.subscribers l.place None ≡ Some y)
+    → IsClosing {T = g.row.T.Denot} {U = g.row.U.Denot} l.fn.state sound l.place y at
+    (KeysLeft l.publisher_place l.publisher_place-end) l.state

@@ -13,7 +13,9 @@ pub returns-in_err-place-clause-step : goal.returns-in_err-place-clause-step
 returns-in_err-place-clause-step g c =
     let refused = err_from_is_err_and c.from_residual.result c.from_residual.ensures.1 in
     rw (refused.1, refused.2) (
-      created-refused {T = g.row.T.Denot} {U = g.row.U.Denot} c.args.state.now (asked_for c.args.given.now) (answers_of g.F.BackpressureFn.allows g.G.DegradationFn.allows c.args.boxes.now.boxes) c.in_err-place.field-0.0 (sym c.place_for_subscriber.ensures ∙ c.in_err-place.was),
+      created-refused {T = g.row.T.Denot} {U = g.row.U.Denot} c.args.state.now (asked_for c.args.given.now)
+          (answers_of g.F.BackpressureFn.allows g.G.DegradationFn.allows c.args.boxes.now.boxes)
+          c.in_err-place.field-0.0 (sym c.place_for_subscriber.ensures ∙ c.in_err-place.was),
       refl,
     )
 
@@ -22,14 +24,18 @@ returns-in_err-id-clause-step g c =
     let refused = err_from_is_err_and c.from_residual-in_err-id.result c.from_residual-in_err-id.ensures.1 in
     let why = c.in_err-id.ensures.step in
     rw (refused.1, refused.2) (
-      created-made {T = g.row.T.Denot} {U = g.row.U.Denot} c.args.state.now (asked_for c.args.given.now) (answers_of g.F.BackpressureFn.allows g.G.DegradationFn.allows c.reserve_for.new.kept.boxes) c.in_ok-place.place (state_of (kept_of c.args.state.now))
+      created-made {T = g.row.T.Denot} {U = g.row.U.Denot} c.args.state.now (asked_for c.args.given.now)
+          (answers_of g.F.BackpressureFn.allows g.G.DegradationFn.allows c.reserve_for.new.kept.boxes)
+          c.in_ok-place.place (state_of (kept_of c.args.state.now))
           (Some c.in_err-id.field-0.0) (sym c.place_for_subscriber.ensures ∙ c.in_ok-place.was) (tt, refl, why.1),
       why.0,
     )
 
 pub returns-clause-step : goal.returns-clause-step
 returns-clause-step g c =
-    created-reaches {T = g.row.T.Denot} {U = g.row.U.Denot} c.args.state.now (asked_for c.args.given.now) (answers_of g.F.BackpressureFn.allows g.G.DegradationFn.allows c.keep_boxes.new.kept.boxes) c.admit_subscriber.new.state c.update_first.new.state c.in_ok-place.place
+    created-reaches {T = g.row.T.Denot} {U = g.row.U.Denot} c.args.state.now (asked_for c.args.given.now)
+    (answers_of g.F.BackpressureFn.allows g.G.DegradationFn.allows c.keep_boxes.new.kept.boxes)
+    c.admit_subscriber.new.state c.update_first.new.state c.in_ok-place.place
     (sym c.place_for_subscriber.ensures ∙ c.in_ok-place.was) c.in_ok-id.ensures.step c.update_first.ensures
 
 pub returns-clause-stands : goal.returns-clause-stands
@@ -48,11 +54,14 @@ update_first-requires-clause-stands g c =
 
 pub returns-in_default-clause-step : goal.returns-in_default-clause-step
 returns-in_default-clause-step g c = (
-  created-made {T = g.row.T.Denot} {U = g.row.U.Denot} c.args.state.now (asked_for c.args.given.now) (answers_of g.F.BackpressureFn.allows g.G.DegradationFn.allows c.reserve_for.new.kept.boxes) c.in_ok-place.place (state_of (kept_of c.args.state.now))
+  created-made {T = g.row.T.Denot} {U = g.row.U.Denot} c.args.state.now (asked_for c.args.given.now)
+      (answers_of g.F.BackpressureFn.allows g.G.DegradationFn.allows c.reserve_for.new.kept.boxes) c.in_ok-place.place
+      (state_of (kept_of c.args.state.now))
       (Some FailedToDeployThreadsafetyPolicy) (sym c.place_for_subscriber.ensures ∙ c.in_ok-place.was) (tt, refl, refl),
   refl,
 )
 
 pub returns-clause-others : goal.returns-clause-others
 returns-clause-others g c = λ port away.
-    c.keep_boxes.ensures.others port (λ is. away (is ∙ c.value.ensures ∙ c.in_ok-id.ensures.id)) ∙ ap (λ (all : List (PortBox g.row.F.Denot g.row.G.Denot)). boxes_of port all) c.reserve_for.ensures.same
+    c.keep_boxes.ensures.others port (λ is. away (is ∙ c.value.ensures ∙ c.in_ok-id.ensures.id))
+    ∙ ap (λ (all : List (PortBox g.row.F.Denot g.row.G.Denot)). boxes_of port all) c.reserve_for.ensures.same

@@ -21,6 +21,12 @@ pub returns : goal.returns
 returns g c = λ y at.
     let both : Some c.requires.stands.0 ≡ Some y = sym c.requires.stands.1 ∙ at in
     let is : c.requires.stands.0 ≡ y = cc in
-    subscriber-first-updates (answers_of g.F.BackpressureFn.allows g.G.DegradationFn.allows c.args.boxes.now.boxes) c.args.state.now c.update_subscriber-failure.new.state _ c.args.place c.args.subscriber c.update_subscriber-failure.result y
+    subscriber-first-updates (answers_of g.F.BackpressureFn.allows g.G.DegradationFn.allows c.args.boxes.now.boxes)
+    c.args.state.now c.update_subscriber-failure.new.state _ c.args.place c.args.subscriber
+    c.update_subscriber-failure.result y
     (c.update_subscriber-failure.ensures y at) at (sym (ap (λ (z : SubscriberFields). z.id) is) ∙ c.requires.stands.2)
-    (λ k. record (c.state.view_is k) { warnings = (c.warn_of_failure.ensures ∙ ap (λ (f : Fields g.row.T.Denot g.row.U.Denot). warning_ring (failure_warned (SubscriberPartlyConnected c.args.subscriber) c.update_subscriber-failure.result f.warnings.items) warning_limit) c.state.view_is) k })
+    (λ k. record (c.state.view_is k) {
+      warnings = (c.warn_of_failure.ensures ∙ ap (λ (f : Fields g.row.T.Denot g.row.U.Denot).
+          warning_ring (failure_warned (SubscriberPartlyConnected c.args.subscriber) c.update_subscriber-failure.result
+          f.warnings.items) warning_limit) c.state.view_is) k;
+    })

@@ -10,7 +10,8 @@ use Rattle.iox2_runs.proofs.runs.run.Given as goal
 
 abbrev pub invariant-loop-command : goal.invariant-loop-command
 invariant-loop-command g l = record {
-  ran : HasRun {T = g.row.T.Denot} {U = g.row.U.Denot} fixed_handlers (defaults_of g.T.Default.is_default g.U.Default.is_default) l.fn.domain l.domain
+  ran : HasRun {T = g.row.T.Denot} {U = g.row.U.Denot} fixed_handlers
+      (defaults_of g.T.Default.is_default g.U.Default.is_default) l.fn.domain l.domain
       (take l.command-index l.fn.commands.items) l.replies.items l.table.items;
   stays : Stays l.fn.domain l.domain;
   new : AreNewIn l.fn.domain l.table.items;

@@ -9,18 +9,25 @@ use Rattle.iox2_updates.proofs.connects.most_connections.Goals as goal
 pub unreachable-requires : goal.unreachable-requires
 unreachable-requires g c =
     let y = c.requires.subscriber in
-    let there : slice_index_or c.state.inside.subscribers.items c.args.place None ≡ Some y.0 = ap (λ (f : Fields g.row.T.Denot g.row.U.Denot). slice_index_or f.subscribers c.args.place None) c.state.view_is ∙ y.1 in
+    let there : slice_index_or c.state.inside.subscribers.items c.args.place None ≡ Some y.0 =
+    ap (λ (f : Fields g.row.T.Denot g.row.U.Denot). slice_index_or f.subscribers c.args.place None) c.state.view_is
+    ∙ y.1 in
     c.in_default.not-Some y.0 (sym (read-there _ c.args.place _ _ there c.index.ensures) ∙ there)
 
 pub returns : goal.returns
 returns g c = λ y at.
     let viewed = c.state.view_is in
-    let there : slice_index_or c.state.inside.subscribers.items c.args.place None ≡ Some y = ap (λ (f : Fields g.row.T.Denot g.row.U.Denot). slice_index_or f.subscribers c.args.place None) viewed ∙ at in
-    let both : Some c.in-Some.subscriber ≡ Some y = sym c.in-Some.is ∙ sym (read-there _ c.args.place _ _ there c.index.ensures) ∙ there in
+    let there : slice_index_or c.state.inside.subscribers.items c.args.place None ≡ Some y =
+    ap (λ (f : Fields g.row.T.Denot g.row.U.Denot). slice_index_or f.subscribers c.args.place None) viewed ∙ at in
+    let both : Some c.in-Some.subscriber ≡ Some y =
+    sym c.in-Some.is ∙ sym (read-there _ c.args.place _ _ there c.index.ensures) ∙ there in
     let is : c.in-Some.subscriber ≡ y = cc in
-    let keys : length c.subscriber.inside.keys.items ≡ length y.keys = ap (λ (z : SubscriberFields). length z.keys) (c.subscriber.view_is ∙ is) in
-    let expired : length c.subscriber.inside.expired.items ≡ length y.expired = ap (λ (z : SubscriberFields). length z.expired) (c.subscriber.view_is ∙ is) in
-    let publishers : length c.state.inside.publishers.items ≡ length c.args.state.now.publishers = ap (λ (f : Fields g.row.T.Denot g.row.U.Denot). length f.publishers) viewed in
+    let keys : length c.subscriber.inside.keys.items ≡ length y.keys =
+    ap (λ (z : SubscriberFields). length z.keys) (c.subscriber.view_is ∙ is) in
+    let expired : length c.subscriber.inside.expired.items ≡ length y.expired =
+    ap (λ (z : SubscriberFields). length z.expired) (c.subscriber.view_is ∙ is) in
+    let publishers : length c.state.inside.publishers.items ≡ length c.args.state.now.publishers =
+    ap (λ (f : Fields g.row.T.Denot g.row.U.Denot). length f.publishers) viewed in
     let few = few-connections c.args.state.now c.requires.agrees.parts c.args.place y at in
     let same = ap (λ (f : Fields g.row.T.Denot g.row.U.Denot). connection_count f.connections y.id) viewed in
     let of_all = few-of-all c.state.inside.connections y.id in

@@ -8,9 +8,13 @@ loop-index-init g c = λ k l has. absurd (omega (arith, has.1))
 
 pub loop-index-preserved : goal.loop-index-preserved
 loop-index-preserved g c =
-    nothing-both c.args.connections.now c.args.subscriber (HasKeyBelow (map g.K.ListedKey.key_of c.args.keys.now) c.loop-index.index) (λ k. c.key.result ≡ Some k) (HasKeyBelow (map g.K.ListedKey.key_of c.args.keys.now) (c.loop-index.index + 1))
+    nothing-both c.args.connections.now c.args.subscriber
+    (HasKeyBelow (map g.K.ListedKey.key_of c.args.keys.now) c.loop-index.index) (λ k. c.key.result ≡ Some k)
+    (HasKeyBelow (map g.K.ListedKey.key_of c.args.keys.now) (c.loop-index.index + 1))
     c.loop-index.invariant (c.borrows_if_any.ensures.nothing c.if-borrows_if_any.false)
-    (next-listed g.K.ListedKey.key_of c.args.keys.now c.loop-index.index c.index-keys-index.result c.key.result c.loop-index-test.true c.index-keys-index.is c.key.ensures)
+    (next-listed g.K.ListedKey.key_of c.args.keys.now c.loop-index.index c.index-keys-index.result c.key.result
+    c.loop-index-test.true c.index-keys-index.is c.key.ensures)
 
 pub returns-clause-nothing : goal.returns-clause-nothing
-returns-clause-nothing g c = λ no k l has. c.loop-index.invariant k l (all-listed g.K.ListedKey.key_of c.args.keys.now c.loop-index.index k c.loop-index-test.false has)
+returns-clause-nothing g c = λ no k l has. c.loop-index.invariant k l
+    (all-listed g.K.ListedKey.key_of c.args.keys.now c.loop-index.index k c.loop-index-test.false has)

@@ -11,12 +11,16 @@ unmark_end-requires g c = c.loop-subscriber_place.invariant.clears.changes.agree
 
 pub loop-subscriber_place-preserved : goal.loop-subscriber_place-preserved
 loop-subscriber_place-preserved g c =
-    sender-more c.args.state.now c.args.place c.loop-subscriber_place.subscriber_place c.loop-subscriber_place.state c.unmark_end.new.state c.loop-subscriber_place.invariant c.unmark_end.ensures
+    sender-more c.args.state.now c.args.place c.loop-subscriber_place.subscriber_place c.loop-subscriber_place.state
+    c.unmark_end.new.state c.loop-subscriber_place.invariant c.unmark_end.ensures
 
 pub returns : goal.returns
 returns g c =
-    let long : length c.state.inside.subscribers.items ≡ length c.args.state.now.subscribers = ap (λ (f : Fields g.row.T.Denot g.row.U.Denot). length f.subscribers) c.state.view_is in
+    let long : length c.state.inside.subscribers.items ≡ length c.args.state.now.subscribers =
+    ap (λ (f : Fields g.row.T.Denot g.row.U.Denot). length f.subscribers) c.state.view_is in
     record {
       clears = c.loop-subscriber_place.invariant.clears;
-      unmarked = sender-cleared c.args.state.now c.args.place c.loop-subscriber_place.subscriber_place c.loop-subscriber_place.state c.loop-subscriber_place.invariant (omega (arith, long, c.loop-subscriber_place-test.false, c.len-subscriber_place-end.ensures));
+      unmarked = sender-cleared c.args.state.now c.args.place c.loop-subscriber_place.subscriber_place
+          c.loop-subscriber_place.state c.loop-subscriber_place.invariant
+          (omega (arith, long, c.loop-subscriber_place-test.false, c.len-subscriber_place-end.ensures));
     }

@@ -11,12 +11,16 @@ unmark_end-requires g c = c.loop-publisher_place.invariant.clears.changes.agrees
 
 pub loop-publisher_place-preserved : goal.loop-publisher_place-preserved
 loop-publisher_place-preserved g c =
-    receiver-more c.args.state.now c.args.place c.loop-publisher_place.publisher_place c.loop-publisher_place.state c.unmark_end.new.state c.loop-publisher_place.invariant c.unmark_end.ensures
+    receiver-more c.args.state.now c.args.place c.loop-publisher_place.publisher_place c.loop-publisher_place.state
+    c.unmark_end.new.state c.loop-publisher_place.invariant c.unmark_end.ensures
 
 pub returns : goal.returns
 returns g c =
-    let long : length c.state.inside.publishers.items ≡ length c.args.state.now.publishers = ap (λ (f : Fields g.row.T.Denot g.row.U.Denot). length f.publishers) c.state.view_is in
+    let long : length c.state.inside.publishers.items ≡ length c.args.state.now.publishers =
+    ap (λ (f : Fields g.row.T.Denot g.row.U.Denot). length f.publishers) c.state.view_is in
     record {
       clears = c.loop-publisher_place.invariant.clears;
-      unmarked = receiver-cleared c.args.state.now c.args.place c.loop-publisher_place.publisher_place c.loop-publisher_place.state c.loop-publisher_place.invariant (omega (arith, long, c.loop-publisher_place-test.false, c.len-publisher_place-end.ensures));
+      unmarked = receiver-cleared c.args.state.now c.args.place c.loop-publisher_place.publisher_place
+          c.loop-publisher_place.state c.loop-publisher_place.invariant
+          (omega (arith, long, c.loop-publisher_place-test.false, c.len-publisher_place-end.ensures));
     }

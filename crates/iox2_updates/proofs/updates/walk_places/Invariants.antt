@@ -7,5 +7,7 @@ use Rattle.iox2_updates.proofs.updates.walk_places.Given as goal
 
 abbrev pub invariant-loop-other : goal.invariant-loop-other
 invariant-loop-other g l = (due : IsSenderDue l.fn.state l.place)
-    → WalksSender {T = g.row.T.Denot} {U = g.row.U.Denot} (answers_of g.F.BackpressureFn.allows g.G.DegradationFn.allows l.boxes.boxes) l.fn.state l.place due.publisher l.other l.state l.first
+    → WalksSender {T = g.row.T.Denot} {U = g.row.U.Denot}
+    (answers_of g.F.BackpressureFn.allows g.G.DegradationFn.allows l.boxes.boxes) l.fn.state l.place due.publisher
+    l.other l.state l.first
     × HasFewHolders l.state.books due.publisher.book (2 ^ 62 + l.other)

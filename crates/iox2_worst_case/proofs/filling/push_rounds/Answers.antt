@@ -4,10 +4,12 @@ use Rattle.iox2_worst_case.proofs.filling.push_rounds.Goals as goal
 
 pub loop-round-preserved : goal.loop-round-preserved
 loop-round-preserved g c =
-    let longer : vec_len c.push_reserved.new.self ≡ vec_len c.loop-round.commands + 4 = omega (arith, c.push_reserved.ensures.len, c.push_send.ensures.len) in
+    let longer : vec_len c.push_reserved.new.self ≡ vec_len c.loop-round.commands + 4 =
+    omega (arith, c.push_reserved.ensures.len, c.push_send.ensures.len) in
     record {
       items = rw (c.push_reserved.ensures.items, c.push_send.ensures.items, longer) (
-          rounds_more {T = g.row.T.Denot} {U = g.row.U.Denot} c.loop-round.commands.items c.args.variant c.args.value c.args.subscriber (vec_len c.loop-round.commands) c.loop-round._round c.args.count
+          rounds_more {T = g.row.T.Denot} {U = g.row.U.Denot} c.loop-round.commands.items c.args.variant c.args.value
+          c.args.subscriber (vec_len c.loop-round.commands) c.loop-round._round c.args.count
           (omega (arith, c.loop-round-test.true))
           ∙ c.loop-round.invariant.items
           );

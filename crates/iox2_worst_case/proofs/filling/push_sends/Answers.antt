@@ -5,7 +5,8 @@ use Rattle.iox2_worst_case.proofs.filling.push_sends.Goals as goal
 pub loop-round-preserved : goal.loop-round-preserved
 loop-round-preserved g c = record {
   items = rw (c.push_send.ensures.items, c.push_send.ensures.len) (
-      sends_more {T = g.row.T.Denot} {U = g.row.U.Denot} c.loop-round.commands.items c.args.variant c.args.value (vec_len c.loop-round.commands) c.loop-round._round c.args.count
+      sends_more {T = g.row.T.Denot} {U = g.row.U.Denot} c.loop-round.commands.items c.args.variant c.args.value
+      (vec_len c.loop-round.commands) c.loop-round._round c.args.count
       (omega (arith, c.loop-round-test.true))
       ∙ c.loop-round.invariant.items
       );

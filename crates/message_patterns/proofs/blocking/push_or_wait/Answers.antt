@@ -9,16 +9,23 @@ pub returns-in-Ok-Delivered-clause-taken : goal.returns-in-Ok-Delivered-clause-t
 returns-in-Ok-Delivered-clause-taken g c = λ reader earlier more takes.
     let publisher = publisher_id c.args.publisher.now in
     let sent = rw c.in-Ok-Delivered.field-0-is at c.in-Ok-Delivered.ensures in
-    let joined = sent.joins reader (singles earlier) takes.wait takes.buffer (room-for-one c.args.domain.now publisher reader earlier more takes) takes.connected tt in
-    takes-next c.args.domain.now c.send_copy.new.domain publisher reader earlier c.args.value more takes joined sent.up_to_date sent.stays.buffers
+    let joined = sent.joins reader (singles earlier) takes.wait takes.buffer
+    (room-for-one c.args.domain.now publisher reader earlier more takes) takes.connected tt in
+    takes-next c.args.domain.now c.send_copy.new.domain publisher reader earlier c.args.value more takes joined
+    sent.up_to_date sent.stays.buffers
 
 pub returns-in-Ok-Blocked-clause-waits : goal.returns-in-Ok-Blocked-clause-waits
 returns-in-Ok-Blocked-clause-waits g c = λ reader earlier wait joined.
     let sent = rw c.in-Ok-Blocked.field-0-is at c.in-Ok-Blocked.ensures in
     ⊎_elim
     (λ it. absurd (it.2 c.requires.one))
-    (λ it. (all_from_as_before c.args.domain.now c.send_copy.new.domain reader it.0 (publisher_id c.args.publisher.now) (singles earlier) wait, it.1))
+    (λ it. (
+      all_from_as_before c.args.domain.now c.send_copy.new.domain reader it.0 (publisher_id c.args.publisher.now)
+          (singles earlier) wait,
+      it.1,
+    ))
     (sent.pending reader joined)
 
 pub returns-in-Ok-Blocked-clause-roomy : goal.returns-in-Ok-Blocked-clause-roomy
-returns-in-Ok-Blocked-clause-roomy g c = λ reader room. ((rw c.in-Ok-Blocked.field-0-is at c.in-Ok-Blocked.ensures).roomy_alone reader room).0
+returns-in-Ok-Blocked-clause-roomy g c =
+    λ reader room. ((rw c.in-Ok-Blocked.field-0-is at c.in-Ok-Blocked.ensures).roomy_alone reader room).0

@@ -20,13 +20,17 @@ unreachable-requires-in-Ok-None c =
     let own = c.requires.own in
     let waits = (rw c.in-Some.is at c.in_ok-waiting.ensures.waits) reader own.0 own.1 c.requires.joined in
     let none = (rw c.in-Some.is at c.in_ok-waiting.ensures.roomy) reader in
-    some-waits c.args.domain.now c.push_or_wait.new.domain publisher reader own.0 c.requires.one c.requires.joined c.requires.buffer c.requires.holds own.1 none waits.0
-    ((rw c.in-Ok-None.field-0-is at c.in-Ok-None.ensures.nothing) (inl (c.in_ok-waiting.ensures.up_to_date.subscribers reader c.requires.up_to_date)))
+    some-waits c.args.domain.now c.push_or_wait.new.domain publisher reader own.0 c.requires.one c.requires.joined
+    c.requires.buffer c.requires.holds own.1 none waits.0
+    ((rw c.in-Ok-None.field-0-is at c.in-Ok-None.ensures.nothing)
+    (inl (c.in_ok-waiting.ensures.up_to_date.subscribers reader c.requires.up_to_date)))
 
 pub unreachable-requires-in-Err : goal.unreachable-requires-in-Err
 unreachable-requires-in-Err c =
     let reader = c.args.subscriber.now in
-    true≢false (sym (c.in-Err.ensures.granted (c.in_ok-waiting.ensures.up_to_date.subscribers reader c.requires.up_to_date) (c.in_ok-waiting.ensures.borrows reader 1 c.requires.borrows)))
+    true≢false
+    (sym (c.in-Err.ensures.granted (c.in_ok-waiting.ensures.up_to_date.subscribers reader c.requires.up_to_date)
+    (c.in_ok-waiting.ensures.borrows reader 1 c.requires.borrows)))
 
 pub unreachable-requires : goal.unreachable-requires
 unreachable-requires c =
@@ -38,15 +42,26 @@ unreachable-requires c =
     let same : blocked_sender c.in-Some.waiting ≡ publisher = ap (λ (k : Key). k.port) blocked.1 in
     let took = (rw c.in-Ok-Some.field-0-is at c.in-Ok-Some.ensures.first) publisher own.0 waits.0 in
     let pending = c.in-Ok-Some.ensures.stays.pending c.in-Some.waiting reader (c.args.value ∷ []) waits.1 tt tt in
-    let still = c.in-Ok-Some.ensures.up_to_date.connections publisher reader (c.in_ok-waiting.ensures.up_to_date.connections publisher reader c.requires.joined) in
-    let there = c.in-Ok-Some.ensures.stays.subscribers (subscriber_key reader) (c.in_ok-waiting.ensures.stays.subscribers (subscriber_key reader) c.requires.subscriber.there tt) tt in
+    let still = c.in-Ok-Some.ensures.up_to_date.connections publisher reader
+    (c.in_ok-waiting.ensures.up_to_date.connections publisher reader c.requires.joined) in
+    let there = c.in-Ok-Some.ensures.stays.subscribers (subscriber_key reader)
+    (c.in_ok-waiting.ensures.stays.subscribers (subscriber_key reader) c.requires.subscriber.there tt) tt in
     let buffer = c.in_ok-waiting.ensures.stays.buffers reader c.requires.buffer in
-    let most : length (payloads_from c.push_or_wait.new.domain publisher reader) ≤ buffer_size_of reader = one_at_most_buffer c.push_or_wait.new.domain c.in-Ok-Some.ensures.consistent reader publisher buffer in
-    let was : length (payloads_from c.push_or_wait.new.domain publisher reader) ≡ length own.0 = ap length waits.0.from ∙ length_singles own.0 in
-    let now : length (payloads_from c.read_one.new.domain publisher reader) ≡ length took.0 = ap length took.2.from ∙ length_singles took.0 in
+    let most : length (payloads_from c.push_or_wait.new.domain publisher reader) ≤ buffer_size_of reader =
+    one_at_most_buffer c.push_or_wait.new.domain c.in-Ok-Some.ensures.consistent reader publisher buffer in
+    let was : length (payloads_from c.push_or_wait.new.domain publisher reader) ≡ length own.0 =
+    ap length waits.0.from ∙ length_singles own.0 in
+    let now : length (payloads_from c.read_one.new.domain publisher reader) ≡ length took.0 =
+    ap length took.2.from ∙ length_singles took.0 in
     let one : length own.0 ≡ length (c.in-Ok-Some.first ∷ took.0) = ap length took.1 in
-    let room : HasRoomAt c.read_one.new.domain publisher reader = record { connected = still; buffer = c.in-Ok-Some.ensures.stays.buffers reader buffer; room = omega (arith, most, was, now, one) } in
-    (rw c.in-Some-2.is at c.in_ok-push_again-in-Ok-Some.ensures.roomy) reader c.args.value pending there (subst (λ (i : ℕ). HasRoomAt c.read_one.new.domain i reader) (sym same) room)
+    let room : HasRoomAt c.read_one.new.domain publisher reader =
+    record {
+      connected = still;
+      buffer = c.in-Ok-Some.ensures.stays.buffers reader buffer;
+      room = omega (arith, most, was, now, one);
+    } in
+    (rw c.in-Some-2.is at c.in_ok-push_again-in-Ok-Some.ensures.roomy) reader c.args.value pending there
+    (subst (λ (i : ℕ). HasRoomAt c.read_one.new.domain i reader) (sym same) room)
 
 pub returns-clause-over : goal.returns-clause-over
 returns-clause-over c = λ earlier wait room.
@@ -57,9 +72,14 @@ returns-clause-over c = λ earlier wait room.
     let same : blocked_sender c.in-Some.waiting ≡ publisher = ap (λ (k : Key). k.port) blocked.1 in
     let took = (rw c.in-Ok-Some.field-0-is at c.in-Ok-Some.ensures.first) publisher earlier waits.0 in
     let pending = c.in-Ok-Some.ensures.stays.pending c.in-Some.waiting reader (c.args.value ∷ []) waits.1 tt tt in
-    let still = c.in-Ok-Some.ensures.up_to_date.connections publisher reader (c.in_ok-waiting.ensures.up_to_date.connections publisher reader c.requires.joined) in
-    let buffer = c.in-Ok-Some.ensures.stays.buffers reader (c.in_ok-waiting.ensures.stays.buffers reader c.requires.buffer) in
-    let fits : length took.0 < buffer_size_of reader = let long : length earlier ≡ length (c.in-Ok-Some.first ∷ took.0) = ap length took.1 in omega (arith, long, room) in
-    let left : Wait c.read_one.new.domain (blocked_sender c.in-Some.waiting) reader took.0 = subst (λ (i : ℕ). Wait c.read_one.new.domain i reader took.0) (sym same) took.2 in
-    let last = (rw c.in-None.is at c.in_ok-push_again-in-Ok-Some.ensures.taken) reader c.args.value took.0 pending (subst (λ (i : ℕ). IsConnected c.read_one.new.domain i reader) (sym same) still) left buffer fits in
+    let still = c.in-Ok-Some.ensures.up_to_date.connections publisher reader
+    (c.in_ok-waiting.ensures.up_to_date.connections publisher reader c.requires.joined) in
+    let buffer =
+    c.in-Ok-Some.ensures.stays.buffers reader (c.in_ok-waiting.ensures.stays.buffers reader c.requires.buffer) in
+    let fits : length took.0 < buffer_size_of reader = let long : length earlier ≡ length
+    (c.in-Ok-Some.first ∷ took.0) = ap length took.1 in omega (arith, long, room) in
+    let left : Wait c.read_one.new.domain (blocked_sender c.in-Some.waiting) reader took.0 =
+    subst (λ (i : ℕ). Wait c.read_one.new.domain i reader took.0) (sym same) took.2 in
+    let last = (rw c.in-None.is at c.in_ok-push_again-in-Ok-Some.ensures.taken) reader c.args.value took.0 pending
+    (subst (λ (i : ℕ). IsConnected c.read_one.new.domain i reader) (sym same) still) left buffer fits in
     (took.0, took.1, subst (λ (i : ℕ). Wait c.push_again.new.domain i reader (took.0 ++ c.args.value ∷ [])) same last)

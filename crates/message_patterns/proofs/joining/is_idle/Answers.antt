@@ -12,4 +12,5 @@ none-if-not n true idle some = let clash : false ≡ true = idle in absurd cc
 pub returns-in-Ok-clause-none : goal.returns-in-Ok-clause-none
 returns-in-Ok-clause-none c = λ idle publisher.
     let domain = c.has_samples.new.domain in
-    none_from_each domain (c.in-Ok.ensures.leaves.stays.consistent c.in-Ok.ensures.consistent) c.args.subscriber.now (none-if-not (waiting domain c.args.subscriber.now) c.in-Ok.waits idle c.in-Ok.ensures.waits.1) publisher
+    none_from_each domain (c.in-Ok.ensures.leaves.stays.consistent c.in-Ok.ensures.consistent) c.args.subscriber.now
+    (none-if-not (waiting domain c.args.subscriber.now) c.in-Ok.waits idle c.in-Ok.ensures.waits.1) publisher

@@ -8,6 +8,9 @@ pub returns-clause-each : goal.returns-clause-each
 returns-clause-each c =
     let subscriber = c.args.subscriber.now in
     let left = publisher_id c.args.left.now in
-    let one = c.in_ok-send_beside.ensures.begins subscriber [] (no_shares c.args.domain.now subscriber c.requires.drained) tt c.requires.connected.0 in
-    let still = c.in_ok-send_beside.ensures.up_to_date.connections (publisher_id c.args.right.now) subscriber c.requires.connected.1 in
-    c.send_beside-2.ensures.begins subscriber (share_of left ((c.args.readings.0 ∷ []) ∷ []) ∷ []) one (c.requires.apart, tt) still
+    let one = c.in_ok-send_beside.ensures.begins subscriber []
+    (no_shares c.args.domain.now subscriber c.requires.drained) tt c.requires.connected.0 in
+    let still = c.in_ok-send_beside.ensures.up_to_date.connections
+    (publisher_id c.args.right.now) subscriber c.requires.connected.1 in
+    c.send_beside-2.ensures.begins subscriber (share_of left ((c.args.readings.0 ∷ []) ∷ []) ∷ []) one
+    (c.requires.apart, tt) still

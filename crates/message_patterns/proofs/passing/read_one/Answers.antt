@@ -7,10 +7,12 @@ use Rattle.message_patterns.proofs.passing.read_one.Goals as goal
 pub returns-clause-first : goal.returns-clause-first
 returns-clause-first c = λ publisher values wait.
     let received = rw c.in-Ok-Some.field-0-is at c.in-Ok-Some.ensures in
-    let got = received_first c.args.domain.now c.receive.new.domain c.args.subscriber.now c.in-Ok-Some.sample received.received publisher values wait in (
+    let got = received_first c.args.domain.now c.receive.new.domain c.args.subscriber.now c.in-Ok-Some.sample
+    received.received publisher values wait in (
       got.1,
       got.2 ∙ ap (λ (value : ℕ). value ∷ got.1) (sym (c.payload-value.ensures.same got.0 got.3)),
-      all_from_stays c.receive.new.domain c.release.new.domain c.release.ensures.leaves.waits publisher c.args.subscriber.now (singles got.1) got.4,
+      all_from_stays c.receive.new.domain c.release.new.domain c.release.ensures.leaves.waits publisher
+          c.args.subscriber.now (singles got.1) got.4,
     )
 
 pub returns-clause-oldest : goal.returns-clause-oldest
@@ -18,9 +20,11 @@ returns-clause-oldest c = λ keeps.
     let received = rw c.in-Ok-Some.field-0-is at c.in-Ok-Some.ensures in
     let sample = c.in-Ok-Some.sample in
     let value = c.payload-value.result.now in
-    let same = waits_as_before c.receive.new.domain c.release.new.domain c.args.subscriber.now c.release.ensures.leaves.waits in (
+    let same = waits_as_before c.receive.new.domain c.release.new.domain c.args.subscriber.now
+    c.release.ensures.leaves.waits in (
       sample.origin,
-      received_oldest c.args.domain.now c.receive.new.domain c.args.subscriber.now sample received.received (value ∷ []) c.payload-value.ensures.reads
+      received_oldest c.args.domain.now c.receive.new.domain c.args.subscriber.now sample received.received
+          (value ∷ []) c.payload-value.ensures.reads
           ∙ ap (λ (later : List (List ℕ)). (value ∷ []) ∷ later) (sym (same.from sample.origin)),
       λ other away. same.from other ∙ received.received.rest keeps other away,
       ap (λ (all : List (List ℕ)). suc (length all)) same.all ∙ received.received.one_fewer keeps,

@@ -12,11 +12,15 @@ loop-value-preserved c = record {
   sent = λ subscriber earlier more takes.
       let publisher = publisher_id c.args.publisher.now in
       let i = c.loop-value.value-index in
-      let was = c.loop-value.invariant.sent subscriber earlier (more + 1) (takes-fewer c.args.domain.now publisher subscriber earlier (i + 1 + more) (i + (more + 1)) (omega arith) takes) in
+      let was = c.loop-value.invariant.sent subscriber earlier (more + 1)
+      (takes-fewer c.args.domain.now publisher subscriber earlier (i + 1 + more) (i + (more + 1))
+      (omega arith) takes) in
       let low : i < length c.args.values.now = omega arith in
-      takes-taken c.send_one.new.domain publisher subscriber earlier c.args.values.now i more low (c.in_ok-send_one.ensures.sent subscriber (earlier ++ take i c.args.values.now) more was);
+      takes-taken c.send_one.new.domain publisher subscriber earlier c.args.values.now i more low
+      (c.in_ok-send_one.ensures.sent subscriber (earlier ++ take i c.args.values.now) more was);
   granted = λ n can. (c.in_ok-send_one.ensures.granted n (c.loop-value.invariant.granted (n + 1)
-      (can-send-fewer c.args.domain.now c.args.publisher.now (c.loop-value.value-index + 1 + n) (c.loop-value.value-index + (n + 1)) (omega arith) can))).1;
+      (can-send-fewer c.args.domain.now c.args.publisher.now (c.loop-value.value-index + 1 + n)
+      (c.loop-value.value-index + (n + 1)) (omega arith) can))).1;
 }
 
 pub returns-clause-sent : goal.returns-clause-sent
@@ -26,7 +30,9 @@ returns-clause-sent c = λ subscriber earlier more takes.
     let within : i ≤ length c.args.values.now = omega arith in
     let all : length c.args.values.now ≤ i = omega arith in
     takes-all c.loop-value.domain publisher subscriber earlier c.args.values.now i more all
-    (c.loop-value.invariant.sent subscriber earlier more (takes-fewer c.args.domain.now publisher subscriber earlier (length c.args.values.now + more) (i + more) (omega arith) takes))
+    (c.loop-value.invariant.sent subscriber earlier more
+    (takes-fewer c.args.domain.now publisher subscriber earlier (length c.args.values.now + more) (i + more)
+    (omega arith) takes))
 
 pub returns-in_err-send_one-clause-granted : goal.returns-in_err-send_one-clause-granted
 returns-in_err-send_one-clause-granted c = λ n can.
@@ -34,4 +40,8 @@ returns-in_err-send_one-clause-granted c = λ n can.
     let low : i < length c.args.values.now = omega arith in
     let left : ℕ = length c.args.values.now - i - 1 in
     let enough : i + (left + 1) ≤ length c.args.values.now + n = omega arith in
-    absurd (true≢false (sym (c.in_err-send_one.ensures.granted left (c.loop-value.invariant.granted (left + 1) (can-send-fewer c.args.domain.now c.args.publisher.now (length c.args.values.now + n) (i + (left + 1)) enough can))).0))
+    absurd
+    (true≢false
+    (sym (c.in_err-send_one.ensures.granted left
+    (c.loop-value.invariant.granted (left + 1) (can-send-fewer c.args.domain.now c.args.publisher.now
+    (length c.args.values.now + n) (i + (left + 1)) enough can))).0))

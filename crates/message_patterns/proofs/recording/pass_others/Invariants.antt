@@ -8,7 +8,8 @@ abbrev pub invariant-loop-blocked : goal.invariant-loop-blocked
 invariant-loop-blocked g l = record {
   live : IsBlockedSend l.domain l.blocked;
   same : blocked_key l.blocked ≡ blocked_key l.fn.waiting;
-  underway : (start : _) (number : ℕ) → IsUnderway start l.fn.domain l.fn.waiting l.recorder number → IsUnderway start l.domain l.blocked l.recorder number;
+  underway : (start : _) (number : ℕ) → IsUnderway start l.fn.domain l.fn.waiting l.recorder number
+      → IsUnderway start l.domain l.blocked l.recorder number;
   up_to_date : UpToDateStay l.fn.domain l.domain;
   stays : StaysBut (blocked_item l.fn.waiting) l.fn.domain l.domain;
 }

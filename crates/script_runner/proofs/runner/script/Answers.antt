@@ -8,7 +8,9 @@ returns-in-Err-write_all-clause-unwarned g c = λ unwarned.
     (c.in-Ok.warnings.bytes, c.in-Ok.ensures.ok, rw (← lines) c.in-Err-write_all.ensures.err)
 
 pub returns-in-Ok-report-clause-reported : goal.returns-in-Ok-report-clause-reported
-returns-in-Ok-report-clause-reported g c = λ error same. rw (← Reported-injective _ error same) c.in-Ok-report.ensures.ok
+returns-in-Ok-report-clause-reported g c =
+    λ error same. rw (← Reported-injective _ error same) c.in-Ok-report.ensures.ok
 
 pub returns-in-Err-report-clause-unreported : goal.returns-in-Err-report-clause-unreported
-returns-in-Err-report-clause-unreported g c = λ error same. rw (← Unreported-injective _ error same) c.in-Err-report.ensures.err
+returns-in-Err-report-clause-unreported g c =
+    λ error same. rw (← Unreported-injective _ error same) c.in-Err-report.ensures.err

@@ -6,4 +6,5 @@ use Rattle.script_text.proofs.WordLemmas.{PiecesLeft}
 use Rattle.script_text.proofs.parse.split_words.Given as goal
 
 abbrev pub invariant-loop-word : goal.invariant-loop-word
-invariant-loop-word l = (left : List (List ℕ)) × PiecesLeft l.word-iterator left × (line_words l.line ≡ texts l.words.items ++ filter is_word left)
+invariant-loop-word l = (left : List (List ℕ)) × PiecesLeft l.word-iterator left
+    × (line_words l.line ≡ texts l.words.items ++ filter is_word left)

@@ -10,7 +10,8 @@ returns c = (
       (begins-then _ _ _ _ _ _ _
       (begins-then _ _ _ _ _ _ _
       (keeps-begins _ _ _ _ c.keep.ensures)
-      (begins-writes _ _ _ _ _ _ _ c.args.bytes.now c.len-start.ensures.commands c.keep.ensures.bytes c.keep_writes.ensures))
+      (begins-writes _ _ _ _ _ _ _ c.args.bytes.now c.len-start.ensures.commands c.keep.ensures.bytes
+      c.keep_writes.ensures))
       (keeps-begins _ _ _ _ (rw c.len-start.ensures.commands at c.keep_send.ensures)))
       c.len-start.ensures.commands c.len-start.ensures.replies c.end_call.ensures.whole c.end_call.ensures.cut,
 )

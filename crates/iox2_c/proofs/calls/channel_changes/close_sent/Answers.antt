@@ -8,5 +8,8 @@ use Rattle.iox2_c.proofs.calls.channel_changes.close_sent.Goals as goal
 
 pub returns-clause-closes : goal.returns-clause-closes
 returns-clause-closes c = λ ok.
-    moved (λ k p. ChangesTo k c.close_channel.new.domain (λ s. sent_closed s p c.args.channel c.args.connection c.args.expected)) c.service.inside.domain c.args.service.now.domain _
-    (wide c.args.numbers.now.id) (ap (λ (s : Serving). s.domain) c.service.view_is) c.in-Ok.ensures.id c.close_channel.ensures.closed
+    moved (λ k p. ChangesTo k c.close_channel.new.domain
+    (λ s. sent_closed s p c.args.channel c.args.connection c.args.expected)) c.service.inside.domain
+    c.args.service.now.domain _
+    (wide c.args.numbers.now.id)
+    (ap (λ (s : Serving). s.domain) c.service.view_is) c.in-Ok.ensures.id c.close_channel.ensures.closed

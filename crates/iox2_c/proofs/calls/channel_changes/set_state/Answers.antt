@@ -11,6 +11,8 @@ pub returns-clause-sets : goal.returns-clause-sets
 returns-clause-sets c = λ ok. (
   c.set_channel_state-answer.result,
   c.number_of.ensures,
-  moved (λ k p. StepsTo k c.set_channel_state-answer.new.domain (λ s s'. SetChannelState s p c.args.channel c.args.state s' c.set_channel_state-answer.result)) c.service.inside.domain
-      c.args.service.now.domain _ (wide c.args.numbers.now.id) (ap (λ (s : Serving). s.domain) c.service.view_is) (ap (λ (it : Subscriber). it.id) c.deref.ensures ∙ c.in-Ok.ensures.id) c.set_channel_state-answer.ensures.sets,
+  moved (λ k p. StepsTo k c.set_channel_state-answer.new.domain (λ s s'.
+      SetChannelState s p c.args.channel c.args.state s' c.set_channel_state-answer.result)) c.service.inside.domain
+      c.args.service.now.domain _ (wide c.args.numbers.now.id) (ap (λ (s : Serving). s.domain) c.service.view_is)
+      (ap (λ (it : Subscriber). it.id) c.deref.ensures ∙ c.in-Ok.ensures.id) c.set_channel_state-answer.ensures.sets,
 )

@@ -7,5 +7,7 @@ use Rattle.iox2_c.proofs.calls.channels.has_hint.Goals as goal
 
 pub returns-clause-tells : goal.returns-clause-tells
 returns-clause-tells c = λ ok.
-    told-number (λ s p. has_disconnect_hint s p c.args.channel c.args.connection c.args.state) c.has_disconnect_hint-is_so.result c.number_of.result c.service.inside.domain c.args.service.now.domain _
-    (wide c.args.numbers.now.id) (ap (λ (s : Serving). s.domain) c.service.view_is) c.in-Ok.ensures.id c.number_of.ensures c.has_disconnect_hint-is_so.ensures
+    told-number (λ s p. has_disconnect_hint s p c.args.channel c.args.connection c.args.state)
+    c.has_disconnect_hint-is_so.result c.number_of.result c.service.inside.domain c.args.service.now.domain _
+    (wide c.args.numbers.now.id) (ap (λ (s : Serving). s.domain) c.service.view_is) c.in-Ok.ensures.id
+    c.number_of.ensures c.has_disconnect_hint-is_so.ensures

@@ -15,8 +15,12 @@ returns c =
         sent,
         c.tell_of-code.ensures.code_is,
         c.tell_of-code.ensures.receivers,
-        subst (λ (old : KeptBytes). SendsNumberedTo old c.deliver_offset_to_connection-sent.new.domain (wide c.args.numbers.now.number) c.args.channel c.args.connection sent) (ap (λ (s : Serving). s.domain) (c.service.view_is ∙ c.record_bytes_into.ensures))
-            (subst (λ n. SendsNumberedTo c.service.inside.domain c.deliver_offset_to_connection-sent.new.domain n c.args.channel c.args.connection sent) c.in-Some.ensures.number c.deliver_offset_to_connection-sent.ensures.sent),
+        subst (λ (old : KeptBytes). SendsNumberedTo old c.deliver_offset_to_connection-sent.new.domain
+            (wide c.args.numbers.now.number) c.args.channel c.args.connection sent)
+            (ap (λ (s : Serving). s.domain) (c.service.view_is ∙ c.record_bytes_into.ensures))
+            (subst (λ n. SendsNumberedTo c.service.inside.domain c.deliver_offset_to_connection-sent.new.domain n
+            c.args.channel c.args.connection sent) c.in-Some.ensures.number
+            c.deliver_offset_to_connection-sent.ensures.sent),
       );
       why = search rules;
       waits = search rules;

@@ -6,10 +6,13 @@ use Rattle.iox2_c.proofs.LoanSteps.{loan-asked, loan-refused}
 use Rattle.iox2_c.proofs.calls.lending.loan_elsewhere.Goals as goal
 
 pub returns-in-Err : goal.returns-in-Err
-returns-in-Err g c = loan-refused g.B.Fill.lends _ c.args.len c.args.service.now _ _ _ _ (search rules) (search rules) (search rules) (search rules)
+returns-in-Err g c = loan-refused g.B.Fill.lends _ c.args.len c.args.service.now _ _ _ _ (search rules) (search rules)
+    (search rules) (search rules)
 
 pub returns : goal.returns
 returns g c =
-    loan-asked (λ (it : SampleMut). it) g.B.Fill.lends c.args.numbers.now c.args.len c.args.service.now _ _ _ _ c.service.inside.domain (publisher_id (as_publisher c.in-Ok.publisher)) c.lend-lent.result
+    loan-asked (λ (it : SampleMut). it) g.B.Fill.lends c.args.numbers.now c.args.len c.args.service.now _ _ _ _
+    c.service.inside.domain (publisher_id (as_publisher c.in-Ok.publisher)) c.lend-lent.result
     (ap (λ (s : Serving). s.domain) c.service.view_is) c.in-Ok.ensures.id c.lend-lent.ensures.lends
-    c.lend-lent.ensures.out c.lend-lent.ensures.new c.tell_lent.ensures.code c.tell_lent.ensures.named c.tell_lent.ensures.same (search rules)
+    c.lend-lent.ensures.out c.lend-lent.ensures.new c.tell_lent.ensures.code c.tell_lent.ensures.named
+    c.tell_lent.ensures.same (search rules)

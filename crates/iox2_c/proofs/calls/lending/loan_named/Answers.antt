@@ -6,10 +6,13 @@ use Rattle.iox2_c.proofs.LoanSteps.{loan-asked, loan-refused}
 use Rattle.iox2_c.proofs.calls.lending.loan_named.Goals as goal
 
 pub returns-in-Err : goal.returns-in-Err
-returns-in-Err g c = loan-refused g.B.Fill.lends _ c.args.len c.args.service.now _ _ _ _ (search rules) (search rules) (search rules) (search rules)
+returns-in-Err g c = loan-refused g.B.Fill.lends _ c.args.len c.args.service.now _ _ _ _ (search rules) (search rules)
+    (search rules) (search rules)
 
 pub returns : goal.returns
 returns g c =
-    loan-asked (λ (it : LocatedLoan ℕ). it.loan) g.B.Fill.lends c.args.numbers.now c.args.len c.args.service.now _ _ _ _ c.service.inside.domain (publisher_id (as_publisher c.in-Ok.publisher)) c.lend_located-lent.result
+    loan-asked (λ (it : LocatedLoan ℕ). it.loan) g.B.Fill.lends c.args.numbers.now c.args.len c.args.service.now _ _ _ _
+    c.service.inside.domain (publisher_id (as_publisher c.in-Ok.publisher)) c.lend_located-lent.result
     (ap (λ (s : Serving). s.domain) c.service.view_is) c.in-Ok.ensures.id c.lend_located-lent.ensures.lends
-    c.lend_located-lent.ensures.out c.lend_located-lent.ensures.new c.tell_located.ensures.code c.tell_located.ensures.named c.tell_located.ensures.same (search rules)
+    c.lend_located-lent.ensures.out c.lend_located-lent.ensures.new c.tell_located.ensures.code
+    c.tell_located.ensures.named c.tell_located.ensures.same (search rules)

@@ -6,5 +6,6 @@ use Rattle.iox2_c.proofs.calls.loans.discard.Goals as goal
 
 pub returns-clause-discards : goal.returns-clause-discards
 returns-clause-discards c = λ ok.
-    subst (λ (old : KeptBytes). Discards old c.discard.new.domain (wide c.args.numbers.now.number)) (ap (λ (s : Serving). s.domain) c.service.view_is)
+    subst (λ (old : KeptBytes). Discards old c.discard.new.domain (wide c.args.numbers.now.number))
+    (ap (λ (s : Serving). s.domain) c.service.view_is)
     (subst (Discards c.service.inside.domain c.discard.new.domain) c.in-Some.ensures.number c.discard.ensures.discarded)

@@ -18,18 +18,28 @@ use Rattle.iox2_c.proofs.calls.publishers.create_asked.Goals as goal
 pub returns : goal.returns
 returns g c =
     let given = c.args.factory.settings in
-    let told = subst (λ (f : PublisherFactory NoHandler NoHandler (PreallocatedSamplesOverride g.row.P.Denot)). (asked : Option ℕ)
-    × AsksForSlots (goal.P-post g (callback_of f)) (worst_case (c.args.domain.now.config) f.settings.max_loaned_samples) asked
-    × ((m : Messages ℕ (Unit {0})) (s : BytesState) → Shows c.args.domain.now m s → (s' : BytesState) × Shows c.create.new.domain m s'
-    × MatchResult c.create.result (λ (publisher : Publisher). (publisher_id (as_publisher publisher) ≡ s.next_port) × CreatePublisher (publishers_answer c.create.new.domain) s (with_slots f.settings asked) s' None)
-    (λ e. CreatePublisher (publishers_answer c.create.new.domain) s (with_slots f.settings asked) s' (Some e)))) c.override_sample_preallocation-asking.ensures c.create.ensures.creates in
-    let step = by-id c.args.domain.now c.create.new.domain (with_slots given (Some c.args.slots)) c.create.result (λ m s shown.
-    let asks = subst (λ (config : ServiceConfig). AsksForSlots (λ worst n. n ≡ c.args.slots) (worst_case config given.max_loaned_samples) told.0) (sym (ap (λ (t : BytesState). t.config) shown.state))
-    (asks-alike (fits (worst_case (c.args.domain.now.config) given.max_loaned_samples)) told.0 c.args.slots (λ n p. c.requires.asks _ n p) told.1) in
+    let told = subst
+    (λ (f : PublisherFactory NoHandler NoHandler (PreallocatedSamplesOverride g.row.P.Denot)). (asked : Option ℕ)
+    × AsksForSlots (goal.P-post g (callback_of f))
+    (worst_case (c.args.domain.now.config) f.settings.max_loaned_samples) asked
+    × ((m : Messages ℕ (Unit {0})) (s : BytesState) → Shows c.args.domain.now m s
+    → (s' : BytesState) × Shows c.create.new.domain m s'
+    × MatchResult c.create.result (λ (publisher : Publisher). (publisher_id (as_publisher publisher) ≡ s.next_port)
+    × CreatePublisher (publishers_answer c.create.new.domain) s (with_slots f.settings asked) s' None)
+    (λ e. CreatePublisher (publishers_answer c.create.new.domain) s (with_slots f.settings asked) s' (Some e))))
+    c.override_sample_preallocation-asking.ensures c.create.ensures.creates in
+    let step =
+    by-id c.args.domain.now c.create.new.domain (with_slots given (Some c.args.slots)) c.create.result (λ m s shown.
+    let asks = subst (λ (config : ServiceConfig). AsksForSlots (λ worst n. n ≡ c.args.slots)
+    (worst_case config given.max_loaned_samples) told.0) (sym (ap (λ (t : BytesState). t.config) shown.state))
+    (asks-alike (fits (worst_case (c.args.domain.now.config) given.max_loaned_samples)) told.0 c.args.slots
+    (λ n p. c.requires.asks _ n p) told.1) in
     let made = told.2 m s shown in (
       made.0,
       made.1,
-      asked-result {T = ℕ} {U = Unit {0}} (publishers_answer c.create.new.domain) s given made.0 (λ (publisher : Publisher). publisher_id (as_publisher publisher)) c.create.result c.args.slots told.0 asks made.2,
+      asked-result {T = ℕ} {U = Unit {0}} (publishers_answer c.create.new.domain) s given made.0
+          (λ (publisher : Publisher). publisher_id (as_publisher publisher)) c.create.result c.args.slots told.0 asks
+          made.2,
     )) in
     record {
       creates = step;

@@ -7,8 +7,10 @@ use Rattle.iox2_c.proofs.calls.publishers.create_by.Goals as goal
 
 pub returns-then-slots-eq0 : goal.returns-then-slots-eq0
 returns-then-slots-eq0 c =
-    let step = subst (λ (asked : Option ℕ). CreatesPublisher c.args.domain.now c.create.new.domain (with_slots c.args.factory.settings asked) (publisher_made c.create.result))
-    (c.requires ∙ sym (slots-left c.args.slots c.if-slots-eq0.true)) (by-id c.args.domain.now c.create.new.domain c.args.factory.settings c.create.result c.create.ensures.creates) in
+    let step = subst (λ (asked : Option ℕ). CreatesPublisher c.args.domain.now c.create.new.domain
+    (with_slots c.args.factory.settings asked) (publisher_made c.create.result))
+    (c.requires ∙ sym (slots-left c.args.slots c.if-slots-eq0.true))
+    (by-id c.args.domain.now c.create.new.domain c.args.factory.settings c.create.result c.create.ensures.creates) in
     record {
       creates = step;
       ready = search rules;
@@ -20,5 +22,6 @@ returns-then-slots-eq0 c =
 
 pub returns-else-slots-eq0 : goal.returns-else-slots-eq0
 returns-else-slots-eq0 c =
-    subst (λ (asked : Option ℕ). MakesPublisher (with_slots c.args.factory.settings asked) c.args.domain.now c.create_asked.new.domain c.create_asked.result)
+    subst (λ (asked : Option ℕ). MakesPublisher
+    (with_slots c.args.factory.settings asked) c.args.domain.now c.create_asked.new.domain c.create_asked.result)
     (sym (slots-asked c.args.slots c.if-slots-eq0.false)) c.create_asked.ensures

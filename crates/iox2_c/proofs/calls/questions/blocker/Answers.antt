@@ -9,6 +9,7 @@ use Rattle.iox2_c.proofs.calls.questions.blocker.Goals as goal
 
 pub returns-clause-tells : goal.returns-clause-tells
 returns-clause-tells c = λ ok.
-    moved (λ k p. TellsBlocker k p (wide c.of.result)) c.service.inside.domain c.args.service.now.domain _ (wide c.args.numbers.now.publisher) (ap (λ (s : Serving). s.domain) c.service.view_is)
+    moved (λ k p. TellsBlocker k p (wide c.of.result)) c.service.inside.domain c.args.service.now.domain _
+    (wide c.args.numbers.now.publisher) (ap (λ (s : Serving). s.domain) c.service.view_is)
     (ap (λ (p : LoanParts). p.publisher) c.in-Some.ensures.named ∙ ap (λ (k : Key). k.port) c.parts.ensures)
     (λ m s shown. c.subscriber.ensures.whom m s shown ∙ ap Some (sym (c.of.ensures ∙ c.value.ensures)))

@@ -11,6 +11,8 @@ returns-clause-answers c = λ live. (
   c.has_samples-answer.result,
   c.tell_answer-code.ensures.code,
   c.tell_answer-code.ensures.tells,
-  moved (λ k p. Asks k c.has_samples-answer.new.domain p c.has_samples-answer.result) c.service.inside.domain c.args.service.now.domain _ (wide c.args.numbers.now.id)
-      (ap (λ (s : Serving). s.domain) c.service.view_is) (ap (λ (it : Subscriber). it.id) c.deref.ensures ∙ c.in-Some.ensures.id) c.has_samples-answer.ensures.answers,
+  moved (λ k p. Asks k c.has_samples-answer.new.domain p c.has_samples-answer.result) c.service.inside.domain
+      c.args.service.now.domain _ (wide c.args.numbers.now.id)
+      (ap (λ (s : Serving). s.domain) c.service.view_is)
+      (ap (λ (it : Subscriber). it.id) c.deref.ensures ∙ c.in-Some.ensures.id) c.has_samples-answer.ensures.answers,
 )

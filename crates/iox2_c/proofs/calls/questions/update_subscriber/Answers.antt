@@ -7,5 +7,7 @@ use Rattle.iox2_c.proofs.calls.questions.update_subscriber.Goals as goal
 
 pub returns-clause-updates : goal.returns-clause-updates
 returns-clause-updates c = λ live.
-    told-update SubscriberUpdates c.update_connections-updated.result _ c.service.inside.domain c.args.service.now.domain c.update_connections-updated.new.domain _ (wide c.args.numbers.now.id)
-    (ap (λ (s : Serving). s.domain) c.service.view_is) c.in-Some.ensures.id c.tell_update.ensures c.update_connections-updated.ensures.updates
+    told-update SubscriberUpdates c.update_connections-updated.result _ c.service.inside.domain
+    c.args.service.now.domain c.update_connections-updated.new.domain _ (wide c.args.numbers.now.id)
+    (ap (λ (s : Serving). s.domain) c.service.view_is) c.in-Some.ensures.id c.tell_update.ensures
+    c.update_connections-updated.ensures.updates

@@ -6,4 +6,5 @@ use Rattle.iox2_c.proofs.calls.samples.copy_out.Goals as goal
 
 pub returns-then-code-eq-OK-clause-releases : goal.returns-then-code-eq-OK-clause-releases
 returns-then-code-eq-OK-clause-releases c = λ ok.
-    subst (λ (old : KeptBytes). SubscriberReleases old c.release.new.domain (receiver_of c.args.sample) (sample_number c.args.sample)) (ap (λ (s : Serving). s.domain) c.service.view_is) c.release.ensures.released
+    subst (λ (old : KeptBytes). SubscriberReleases old c.release.new.domain (receiver_of c.args.sample)
+    (sample_number c.args.sample)) (ap (λ (s : Serving). s.domain) c.service.view_is) c.release.ensures.released

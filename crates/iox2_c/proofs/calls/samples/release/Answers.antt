@@ -10,9 +10,13 @@ returns c = record {
   zero_or_two = inl refl;
   live = search rules;
   releases = λ ok.
-      subst (λ (old : KeptBytes). SubscriberReleases old c.release.new.domain (wide c.args.numbers.now.subscriber) (wide c.args.numbers.now.number)) (c.sample_at_hint.ensures.same ∙ ap (λ (s : Serving). s.domain) c.service.view_is)
-      (subst (λ (q : ℕ). SubscriberReleases c.sample_at_hint.new.domain c.release.new.domain q (wide c.args.numbers.now.number)) c.in-Some.ensures.receiver
-      (subst (SubscriberReleases c.sample_at_hint.new.domain c.release.new.domain (receiver_of c.in-Some.sample)) c.in-Some.ensures.number c.release.ensures.released));
+      subst (λ (old : KeptBytes). SubscriberReleases old c.release.new.domain (wide c.args.numbers.now.subscriber)
+      (wide c.args.numbers.now.number))
+      (c.sample_at_hint.ensures.same ∙ ap (λ (s : Serving). s.domain) c.service.view_is)
+      (subst (λ (q : ℕ). SubscriberReleases c.sample_at_hint.new.domain c.release.new.domain q
+      (wide c.args.numbers.now.number)) c.in-Some.ensures.receiver
+      (subst (SubscriberReleases c.sample_at_hint.new.domain c.release.new.domain (receiver_of c.in-Some.sample))
+      c.in-Some.ensures.number c.release.ensures.released));
   spent = search rules;
   refused = λ high. absurd (omega (arith, high));
   stays = search rules;

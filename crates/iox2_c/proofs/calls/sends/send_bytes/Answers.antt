@@ -8,8 +8,10 @@ returns-in-Ok-clause-sends c = inl (record {
   lent = c.loan_slice_uninit.new.domain;
   written = c.write_from_slice.new.domain;
   lends = c.in-Ok.ensures.lends;
-  writes = subst (λ (n : ℕ). Writes c.loan_slice_uninit.new.domain c.write_from_slice.new.domain n c.args.bytes.now) c.in-Ok.ensures.loan.lent.number c.write_from_slice.ensures.step;
+  writes = subst (λ (n : ℕ). Writes c.loan_slice_uninit.new.domain c.write_from_slice.new.domain n c.args.bytes.now)
+      c.in-Ok.ensures.loan.lent.number c.write_from_slice.ensures.step;
   sends =
       subst (λ (n : ℕ). SendsNumbered c.write_from_slice.new.domain c.send.new.domain n c.send.result)
-      (ap (λ (k : Key). k.message) c.write_from_slice.ensures.becomes.key ∙ c.in-Ok.ensures.loan.lent.number) c.send.ensures.sent;
+      (ap (λ (k : Key). k.message) c.write_from_slice.ensures.becomes.key ∙ c.in-Ok.ensures.loan.lent.number)
+      c.send.ensures.sent;
 })

@@ -13,6 +13,8 @@ returns-clause-sent c = λ two seven.
       sent,
       c.tell-code.ensures.code_is,
       c.tell-code.ensures.receivers,
-      subst (λ (old : KeptBytes). SendsBytes old c.send_bytes-sent.new.domain (wide c.args.numbers.now.id) c.args.bytes.now sent) (ap (λ (s : Serving). s.domain) c.service.view_is)
-          (subst (λ (p : ℕ). SendsBytes c.service.inside.domain c.send_bytes-sent.new.domain p c.args.bytes.now sent) c.in-Ok.ensures.id c.send_bytes-sent.ensures.sends),
+      subst (λ (old : KeptBytes). SendsBytes old c.send_bytes-sent.new.domain
+          (wide c.args.numbers.now.id) c.args.bytes.now sent) (ap (λ (s : Serving). s.domain) c.service.view_is)
+          (subst (λ (p : ℕ). SendsBytes c.service.inside.domain c.send_bytes-sent.new.domain p c.args.bytes.now sent)
+          c.in-Ok.ensures.id c.send_bytes-sent.ensures.sends),
     )

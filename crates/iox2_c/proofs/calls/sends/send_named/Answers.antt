@@ -15,8 +15,10 @@ returns c =
         sent,
         c.tell_of.ensures.code_is,
         c.tell_of.ensures.receivers,
-        subst (λ (old : KeptBytes). SendsNumbered old c.send-sent.new.domain (wide c.args.numbers.now.number) sent) (ap (λ (s : Serving). s.domain) c.service.view_is)
-            (subst (λ n. SendsNumbered c.service.inside.domain c.send-sent.new.domain n sent) c.in-Some.ensures.number c.send-sent.ensures.sent),
+        subst (λ (old : KeptBytes). SendsNumbered old c.send-sent.new.domain (wide c.args.numbers.now.number) sent)
+            (ap (λ (s : Serving). s.domain) c.service.view_is)
+            (subst (λ n. SendsNumbered c.service.inside.domain c.send-sent.new.domain n sent) c.in-Some.ensures.number
+            c.send-sent.ensures.sent),
       );
       why = search rules;
       waits = search rules;

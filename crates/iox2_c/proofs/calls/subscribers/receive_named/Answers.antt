@@ -28,10 +28,12 @@ returns-in-Ok-Some c =
     let ok = c.tell_received.ensures.code in record {
       never = λ one. absurd (omega (arith, ok, one));
       received = λ _.
-          receives-moved c.service.inside.domain c.args.service.now.domain c.receive-received.new.domain _ (wide c.args.numbers.now.id) _ _
+          receives-moved c.service.inside.domain c.args.service.now.domain c.receive-received.new.domain _
+          (wide c.args.numbers.now.id) _ _
           (ap (λ (s : Serving). s.domain) c.service.view_is) c.in-Some.ensures.id
           (ap (λ (o : Option Sample). received_result (Ok o)) c.in-Ok-Some.field-0-is
-          ∙ ap (λ (o : ℕ). Got_sample o c.in-Ok-Some.sample.sample.number) (sym origin) ∙ ap (Got_sample (wide (c.tell_received.new.out).origin)) (sym number))
+          ∙ ap (λ (o : ℕ). Got_sample o c.in-Ok-Some.sample.sample.number) (sym origin)
+          ∙ ap (Got_sample (wide (c.tell_received.new.out).origin)) (sym number))
           c.in-Ok-Some.ensures.receives;
       nothing = λ none. absurd (omega (arith, ok, none));
       errors = λ high. absurd (omega (arith, ok, high));
@@ -49,8 +51,10 @@ returns-in-Ok-None c = record {
   never = λ one. absurd (omega (arith, one));
   received = λ ok. absurd (omega (arith, ok));
   nothing = λ _.
-      receives-moved c.service.inside.domain c.args.service.now.domain c.receive-received.new.domain _ (wide c.args.numbers.now.id) _ No_sample
-      (ap (λ (s : Serving). s.domain) c.service.view_is) c.in-Some.ensures.id (ap (λ (o : Option Sample). received_result (Ok o)) c.in-Ok-None.field-0-is)
+      receives-moved c.service.inside.domain c.args.service.now.domain c.receive-received.new.domain _
+      (wide c.args.numbers.now.id) _ No_sample
+      (ap (λ (s : Serving). s.domain) c.service.view_is) c.in-Some.ensures.id
+      (ap (λ (o : Option Sample). received_result (Ok o)) c.in-Ok-None.field-0-is)
       c.in-Ok-None.ensures.receives;
   errors = λ high. absurd (omega (arith, high));
   not_live = λ two. absurd (omega (arith, two));
@@ -64,14 +68,16 @@ returns-in-Ok-None c = record {
 
 pub returns-in-Err : goal.returns-in-Err
 returns-in-Err c =
-    let high : 30 ≤ c.receive_status.result = subst (λ (n : ℕ). 30 ≤ n) (sym c.receive_status.ensures) (receive-code-high c.in-Err.error) in record {
+    let high : 30 ≤ c.receive_status.result =
+    subst (λ (n : ℕ). 30 ≤ n) (sym c.receive_status.ensures) (receive-code-high c.in-Err.error) in record {
       never = λ one. absurd (omega (arith, high, one));
       received = λ ok. absurd (omega (arith, high, ok));
       nothing = λ none. absurd (omega (arith, high, none));
       errors = λ _. (
         c.in-Err.error,
         c.receive_status.ensures,
-        receives-moved c.service.inside.domain c.args.service.now.domain c.receive-received.new.domain _ (wide c.args.numbers.now.id) _ (Receive_error c.in-Err.error)
+        receives-moved c.service.inside.domain c.args.service.now.domain c.receive-received.new.domain _
+            (wide c.args.numbers.now.id) _ (Receive_error c.in-Err.error)
             (ap (λ (s : Serving). s.domain) c.service.view_is) c.in-Some.ensures.id refl c.in-Err.ensures.receives,
       );
       not_live = λ two. absurd (omega (arith, high, two));

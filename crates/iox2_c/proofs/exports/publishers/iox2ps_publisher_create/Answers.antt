@@ -3,7 +3,9 @@ use Rattle.iox2_c.proofs.BecomesSteps.{turns}
 use Rattle.iox2_c.proofs.exports.publishers.iox2ps_publisher_create.Goals as goal
 
 pub returns-in-Some-clause-creates : goal.returns-in-Some-clause-creates
-returns-in-Some-clause-creates c = λ ok. turns _ _ _ c.in-Some.service.now c.create.new.service c.in-Some.ensures.value refl (c.create.ensures.creates ok, c.create.ensures.reads ok)
+returns-in-Some-clause-creates c = λ ok. turns _ _ _ c.in-Some.service.now c.create.new.service c.in-Some.ensures.value
+    refl (c.create.ensures.creates ok, c.create.ensures.reads ok)
 
 pub returns-in-Some-clause-errors : goal.returns-in-Some-clause-errors
-returns-in-Some-clause-errors c = λ some. let failed = c.create.ensures.errors (omega (arith, some)) in (failed.0, failed.1, turns _ _ _ c.in-Some.service.now c.create.new.service c.in-Some.ensures.value refl failed.2)
+returns-in-Some-clause-errors c = λ some. let failed = c.create.ensures.errors (omega (arith, some)) in
+    (failed.0, failed.1, turns _ _ _ c.in-Some.service.now c.create.new.service c.in-Some.ensures.value refl failed.2)

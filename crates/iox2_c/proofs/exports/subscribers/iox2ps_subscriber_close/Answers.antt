@@ -3,4 +3,5 @@ use Rattle.iox2_c.proofs.BecomesSteps.{becomes}
 use Rattle.iox2_c.proofs.exports.subscribers.iox2ps_subscriber_close.Goals as goal
 
 pub returns-in-Some-clause-closed : goal.returns-in-Some-clause-closed
-returns-in-Some-clause-closed c = λ ok. becomes _ _ _ c.in-Some.service.now c.close.new.service c.in-Some.ensures.value refl (c.close.ensures.closed ok)
+returns-in-Some-clause-closed c = λ ok.
+    becomes _ _ _ c.in-Some.service.now c.close.new.service c.in-Some.ensures.value refl (c.close.ensures.closed ok)

@@ -23,9 +23,19 @@ loop-preserved g c =
     let long : c.max.result ≡ max c.args.longest 2 = c.max.ensures in
     record {
       kept = rw c.push_reserved-in-loop.ensures.items
-          (FirstAnd-push _ (IsSpare {T = g.row.T.Denot}) c.loop.lists.items _ c.loop.invariant.kept (λ x is.
-          (c.in_ok-with_capacity.ensures.items, omega (arith, exact, long, is (λ list. length list.items), c.loop.invariant.most), omega (arith, exact, long))));
-      most = rw c.push_reserved-in-loop.ensures.items (of_first-push _ c.loop.lists.items _ (omega (arith, c.loop.invariant.count)) ∙ c.loop.invariant.most);
+          (FirstAnd-push _ (IsSpare {T = g.row.T.Denot}) c.loop.lists.items _ c.loop.invariant.kept (λ x is. (
+            c.in_ok-with_capacity.ensures.items,
+            omega (
+              arith,
+              exact,
+              long,
+              is (λ list. length list.items),
+              c.loop.invariant.most,
+            ),
+            omega (arith, exact, long),
+          )));
+      most = rw c.push_reserved-in-loop.ensures.items
+          (of_first-push _ c.loop.lists.items _ (omega (arith, c.loop.invariant.count)) ∙ c.loop.invariant.most);
       count = rw (c.push_reserved-in-loop.ensures.items, length_push) (omega (arith, c.loop.invariant.count));
       len = rw (c.push_reserved-in-loop.ensures.len, c.loop.invariant.len) refl;
       capacity = c.push_reserved-in-loop.ensures.capacity ∙ c.loop.invariant.capacity;

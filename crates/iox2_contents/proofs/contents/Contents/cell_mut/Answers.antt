@@ -10,27 +10,44 @@ pub ready-requires-clause-lists : goal.ready-requires-clause-lists
 ready-requires-clause-lists g c = c.self.invariant
 
 pub ready-requires-clause-within : goal.ready-requires-clause-within
-ready-requires-clause-within g c = some_slot_within _ c.self.inside.slots.items _ c.args.slot (λ content. 0 < length content.cells) c.self.view_is c.requires
+ready-requires-clause-within g c = some_slot_within _ c.self.inside.slots.items _ c.args.slot
+    (λ content. 0 < length content.cells) c.self.view_is c.requires
 
 pub index_mut-requires : goal.index_mut-requires
-index_mut-requires g c = rw c.ready.new.slots.ok.0 (some_slot_within _ c.ready.new.slots.items _ c.args.slot (λ content. 0 < length content.cells) (c.ready.ensures.same ∙ c.self.view_is) c.requires)
+index_mut-requires g c = rw c.ready.new.slots.ok.0
+    (some_slot_within _ c.ready.new.slots.items _ c.args.slot (λ content. 0 < length content.cells)
+    (c.ready.ensures.same ∙ c.self.view_is) c.requires)
 
 pub cell_mut-requires-clause-first : goal.cell_mut-requires-clause-first
 cell_mut-requires-clause-first g c =
-    (content_read _ c.ready.new.slots.items _ c.args.slot (λ content. 0 < length content.cells) _ (c.ready.ensures.same ∙ c.self.view_is) c.requires c.index_mut.ensures.value).1
+    (content_read _ c.ready.new.slots.items _ c.args.slot (λ content. 0 < length content.cells) _
+    (c.ready.ensures.same ∙ c.self.view_is) c.requires c.index_mut.ensures.value).1
 
 pub cell_mut-requires-clause-ready : goal.cell_mut-requires-clause-ready
-cell_mut-requires-clause-ready g c = (some_read c.ready.new.slots.items c.args.slot (λ s. slot_waits s ≡ false) c.index_mut.result.now c.ready.ensures.ready c.index_mut.ensures.value).1
+cell_mut-requires-clause-ready g c =
+    (some_read c.ready.new.slots.items c.args.slot
+    (λ s. slot_waits s ≡ false) c.index_mut.result.now c.ready.ensures.ready c.index_mut.ensures.value).1
 
 pub invariant_of-self-lent : goal.invariant_of-self-lent
 invariant_of-self-lent g c =
-    let read = content_read _ c.ready.new.slots.items _ c.args.slot (λ content. 0 < length content.cells) _ (c.ready.ensures.same ∙ c.self.view_is) c.requires c.index_mut.ensures.value in
-    λ w. lent _ _ _ c.ready.new.slots.items c.args.slot _ read.0 (with_content (with_first_cell w) c.index_mut.result.now) c.ready.ensures.lists refl refl refl refl (length-set _ 0 w)
+    let read = content_read _ c.ready.new.slots.items _ c.args.slot (λ content. 0 < length content.cells) _
+    (c.ready.ensures.same ∙ c.self.view_is) c.requires c.index_mut.ensures.value in
+    λ w. lent _ _ _ c.ready.new.slots.items c.args.slot _ read.0
+    (with_content (with_first_cell w) c.index_mut.result.now) c.ready.ensures.lists refl refl refl refl
+    (length-set _ 0 w)
 
 pub returns : goal.returns
 returns g c =
     let same = c.ready.ensures.same ∙ c.self.view_is in
-    let read = content_read _ c.ready.new.slots.items _ c.args.slot (λ content. 0 < length content.cells) _ same c.requires c.index_mut.ensures.value in (
-      (refl, λ w. changed-contents 0 0 _ c.ready.new.slots.items c.args.slot _ read.0 _ (with_first_cell w) _ same refl refl),
-      record { writes_back = tt; value = rw (content-at 0 0 _ c.ready.new.slots.items c.args.slot _ read.0 _ same) c.cell_mut.ensures.value },
+    let read = content_read _ c.ready.new.slots.items _ c.args.slot
+    (λ content. 0 < length content.cells) _ same c.requires c.index_mut.ensures.value in (
+      (
+        refl,
+        λ w.
+            changed-contents 0 0 _ c.ready.new.slots.items c.args.slot _ read.0 _ (with_first_cell w) _ same refl refl,
+      ),
+      record {
+        writes_back = tt;
+        value = rw (content-at 0 0 _ c.ready.new.slots.items c.args.slot _ read.0 _ same) c.cell_mut.ensures.value;
+      },
     )

@@ -3,4 +3,9 @@ use Rattle.iox2_domain.proofs.lemmas.containers.ConnectionKeys.{placed-sets}
 use Rattle.iox2_domain.proofs.publisher_state.PublisherStatePort.set_key.Goals as goal
 
 pub returns : goal.returns
-returns c = rw (← c.self.view_is, c.put_at_place.ensures.items, c.put_at_place.ensures.capacity, placed-sets c.self.inside.keys.items c.args.place c.args.key) refl
+returns c = rw (
+  ← c.self.view_is,
+  c.put_at_place.ensures.items,
+  c.put_at_place.ensures.capacity,
+  placed-sets c.self.inside.keys.items c.args.place c.args.key,
+) refl

@@ -11,13 +11,18 @@ use Rattle.iox2_domain.proofs.state.DomainState.find_live_publisher.Goals as goa
 
 pub find_live_place-requires : goal.find_live_place-requires
 find_live_place-requires g c = λ none.
-    let read : c.deref.result.now ≡ c.args.self.now.publishers = c.deref.ensures.value ∙ ap (λ (f : Fields g.row.T.Denot g.row.U.Denot). f.publishers) c.self.view_is in
-    c.requires (rw (← c.value.ensures) (subst (λ (xs : List (Option PublisherFields)). look_up (is_publisher c.value.result) xs ≡ None) read none))
+    let read : c.deref.result.now ≡ c.args.self.now.publishers =
+    c.deref.ensures.value ∙ ap (λ (f : Fields g.row.T.Denot g.row.U.Denot). f.publishers) c.self.view_is in
+    c.requires (rw (← c.value.ensures)
+    (subst (λ (xs : List (Option PublisherFields)). look_up (is_publisher c.value.result) xs ≡ None) read none))
 
 pub returns : goal.returns
 returns g c =
     let id = c.value.result in
-    let read : c.deref.result.now ≡ c.args.self.now.publishers = c.deref.ensures.value ∙ ap (λ (f : Fields g.row.T.Denot g.row.U.Denot). f.publishers) c.self.view_is in
+    let read : c.deref.result.now ≡ c.args.self.now.publishers =
+    c.deref.ensures.value ∙ ap (λ (f : Fields g.row.T.Denot g.row.U.Denot). f.publishers) c.self.view_is in
     rw (← c.value.ensures)
-    (found-at (look_up (is_publisher id) c.args.self.now.publishers ≡ None) (λ (x : PublisherFields). x.id ≡ id) c.args.self.now.publishers (Some c.find_live_place.result)
-    (subst (λ (xs : List (Option PublisherFields)). IsSomeAnd (get_or xs c.find_live_place.result None) (λ x. x.id ≡ id)) read c.find_live_place.ensures))
+    (found-at (look_up (is_publisher id) c.args.self.now.publishers ≡ None)
+    (λ (x : PublisherFields). x.id ≡ id) c.args.self.now.publishers (Some c.find_live_place.result)
+    (subst (λ (xs : List (Option PublisherFields)).
+    IsSomeAnd (get_or xs c.find_live_place.result None) (λ x. x.id ≡ id)) read c.find_live_place.ensures))

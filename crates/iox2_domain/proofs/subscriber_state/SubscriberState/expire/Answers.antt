@@ -6,10 +6,15 @@ use Rattle.iox2_domain.proofs.subscriber_state.SubscriberState.expire.Goals as g
 
 pub returns : goal.returns
 returns c =
-    let low : c.args.place < length c.self.inside.keys.items = subst (λ (y : SubscriberFields). c.args.place < length y.keys) (sym c.self.view_is) c.requires.within in
+    let low : c.args.place < length c.self.inside.keys.items =
+    subst (λ (y : SubscriberFields). c.args.place < length y.keys) (sym c.self.view_is) c.requires.within in
     (λ k. record (c.self.view_is k) {
       keys = set_place-within c.self.inside.keys.items c.args.place None low k;
       expired = c.push_reserved.ensures.items k;
       expired_room = c.push_reserved.ensures.capacity k;
     })
-    ∙ ap (λ (y : SubscriberFields). let z : SubscriberFields = record c.args.self.now { keys = set_place y.keys c.args.place None; expired = y.expired ++ c.args.key ∷ []; expired_room = y.expired_room } in z) c.self.view_is
+    ∙ ap (λ (y : SubscriberFields). let z : SubscriberFields = record c.args.self.now {
+      keys = set_place y.keys c.args.place None;
+      expired = y.expired ++ c.args.key ∷ [];
+      expired_room = y.expired_room;
+    } in z) c.self.view_is

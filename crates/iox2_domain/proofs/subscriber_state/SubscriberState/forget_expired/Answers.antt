@@ -8,4 +8,5 @@ pub returns : goal.returns
 returns c =
     let kept = filter_same _ _ _ (λ x b f' k. search rules) _ _ c.retain.ensures.filtered in
     (λ k. record (c.self.view_is k) { expired = kept k; expired_room = c.retain.ensures.capacity k })
-    ∙ ap (λ (y : SubscriberFields). let z : SubscriberFields = record c.args.self.now { expired = without c.args.key y.expired; expired_room = y.expired_room } in z) c.self.view_is
+    ∙ ap (λ (y : SubscriberFields). let z : SubscriberFields = record c.args.self.now
+    { expired = without c.args.key y.expired; expired_room = y.expired_room } in z) c.self.view_is

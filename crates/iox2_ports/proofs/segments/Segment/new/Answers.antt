@@ -12,10 +12,13 @@ returns g c = record {
   contents_length = c.in_ok-contents.ensures.len;
   contents_room = c.in_ok-contents.ensures.room;
   contents_closed =
-      All-weaker (λ (content : ContentState g.row.T.Denot g.row.U.Denot). (content.cells ≡ []) × (content.values ≡ [])) (λ (content : ContentState g.row.T.Denot g.row.U.Denot). content.cells ≡ [])
+      All-weaker (λ (content : ContentState g.row.T.Denot g.row.U.Denot). (content.cells ≡ []) × (content.values ≡ []))
+      (λ (content : ContentState g.row.T.Denot g.row.U.Denot). content.cells ≡ [])
       (λ content both. both.0) c.in_ok-contents.contents c.in_ok-contents.ensures.empty;
   contents_form = λ listed.
-      All-weaker (λ (content : ContentState g.row.T.Denot g.row.U.Denot). c.args.in_lists ≡ true → content.is_in_place ≡ false) (λ (content : ContentState g.row.T.Denot g.row.U.Denot). content.is_in_place ≡ false)
+      All-weaker (λ (content : ContentState g.row.T.Denot g.row.U.Denot). c.args.in_lists ≡ true
+      → content.is_in_place ≡ false)
+      (λ (content : ContentState g.row.T.Denot g.row.U.Denot). content.is_in_place ≡ false)
       (λ content form. form listed) c.in_ok-contents.contents c.in_ok-contents.ensures.in_lists;
   contents_lists = c.in_ok-contents.ensures.lists;
 }

@@ -11,6 +11,7 @@ pub returns : goal.returns
 returns g c =
     let state = c.self.inside.state in
     c.len.ensures
-    ∙ ap (λ (d : Inside g.row.T.Denot g.row.U.Denot g.row.F.Denot g.row.G.Denot). slab_len d.state.books) c.self-inside.view_is
+    ∙ ap (λ (d : Inside g.row.T.Denot g.row.U.Denot g.row.F.Denot g.row.G.Denot). slab_len d.state.books)
+    c.self-inside.view_is
     ∙ count-kept_books state.contents 0 state.books.slots
     ∙ ap (λ (k : Kept g.row.T.Denot g.row.U.Denot g.row.F.Denot g.row.G.Denot). count_by is_some k.books) c.self.view_is

@@ -12,14 +12,23 @@ use Rattle.iox2_pubsub.proofs.domain.Domain.borrowed_of.Goals as goal
 pub returns-clause-live : goal.returns-clause-live
 returns-clause-live g c =
     let lies = rw c.sample.ensures at c.in-Some.ensures in
-    let held = lies-live {T = g.row.T.Denot} {U = g.row.U.Denot} c.self.inside.state c.self.invariant c.args.parts.now.subscriber c.args.parts.now.number _ lies in
-    let its : c.args.parts.now.service_id ≡ (c.args.self.now.config).service_id = cc (ap (λ (k : Kept g.row.T.Denot g.row.U.Denot g.row.F.Denot g.row.G.Denot). (k.config).service_id) c.self.view_is) in
-    sample-live c.args.self.now (sample_named c.args.parts.now)
-    (its, subst (λ (k : Kept g.row.T.Denot g.row.U.Denot g.row.F.Denot g.row.G.Denot). HoldsSample (state_of k) c.args.parts.now.subscriber c.args.parts.now.number) c.self.view_is held)
+    let held = lies-live {T = g.row.T.Denot} {U = g.row.U.Denot} c.self.inside.state c.self.invariant
+    c.args.parts.now.subscriber c.args.parts.now.number _ lies in
+    let its : c.args.parts.now.service_id ≡ (c.args.self.now.config).service_id =
+    cc (ap
+    (λ (k : Kept g.row.T.Denot g.row.U.Denot g.row.F.Denot g.row.G.Denot). (k.config).service_id) c.self.view_is) in
+    sample-live c.args.self.now (sample_named c.args.parts.now) (
+      its,
+      subst (λ (k : Kept g.row.T.Denot g.row.U.Denot g.row.F.Denot g.row.G.Denot).
+          HoldsSample (state_of k) c.args.parts.now.subscriber c.args.parts.now.number) c.self.view_is held,
+    )
 
 pub returns-clause-placed : goal.returns-clause-placed
 returns-clause-placed g c =
     let lies = rw c.sample.ensures at c.in-Some.ensures in
-    let has = its-slot {T = g.row.T.Denot} {U = g.row.U.Denot} c.self.inside.state c.self.invariant c.args.parts.now.subscriber c.args.parts.now.number _ lies in
-    subst (λ (k : Kept g.row.T.Denot g.row.U.Denot g.row.F.Denot g.row.G.Denot). IsPlaced k c.args.parts.now.number c.in-Some.at.book c.in-Some.at.slot) c.self.view_is
-    (numbered-placed {T = g.row.T.Denot} {U = g.row.U.Denot} _ c.self.inside.state c.self.invariant c.in-Some.at.book c.in-Some.at.slot c.args.parts.now.number has)
+    let has = its-slot {T = g.row.T.Denot} {U = g.row.U.Denot} c.self.inside.state c.self.invariant
+    c.args.parts.now.subscriber c.args.parts.now.number _ lies in
+    subst (λ (k : Kept g.row.T.Denot g.row.U.Denot g.row.F.Denot g.row.G.Denot).
+    IsPlaced k c.args.parts.now.number c.in-Some.at.book c.in-Some.at.slot) c.self.view_is
+    (numbered-placed {T = g.row.T.Denot} {U = g.row.U.Denot} _ c.self.inside.state c.self.invariant c.in-Some.at.book
+    c.in-Some.at.slot c.args.parts.now.number has)

@@ -12,6 +12,8 @@ pub returns : goal.returns
 returns g c =
     let state = c.self.inside.state in
     c.len.ensures
-    ∙ ap (λ (d : Inside g.row.T.Denot g.row.U.Denot g.row.F.Denot g.row.G.Denot). slab_len d.state.connections) c.self-inside.view_is
+    ∙ ap (λ (d : Inside g.row.T.Denot g.row.U.Denot g.row.F.Denot g.row.G.Denot). slab_len d.state.connections)
+    c.self-inside.view_is
     ∙ count-mapped (between_of state.books state.connections) state.connections.slots
-    ∙ ap (λ (k : Kept g.row.T.Denot g.row.U.Denot g.row.F.Denot g.row.G.Denot). count_by is_some k.connections) c.self.view_is
+    ∙ ap (λ (k : Kept g.row.T.Denot g.row.U.Denot g.row.F.Denot g.row.G.Denot). count_by is_some k.connections)
+    c.self.view_is

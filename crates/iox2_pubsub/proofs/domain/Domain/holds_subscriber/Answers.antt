@@ -8,4 +8,6 @@ pub returns : goal.returns
 unfolding IsSubscriberKey
 returns g c =
     let has = rw c.new.ensures at c.has_open_subscriber.ensures in
-    held-port c.self.inside.state c.args.self.now c.self.view_is (λ (s : State g.row.T.Denot g.row.U.Denot). HoldsSubscriber s c.args.key.port) c.args.key.service_id c.args.key.message c.if-key-ne0.false (same-service c.config.ensures c.if-key-config.false) has
+    held-port c.self.inside.state c.args.self.now c.self.view_is
+    (λ (s : State g.row.T.Denot g.row.U.Denot). HoldsSubscriber s c.args.key.port) c.args.key.service_id
+    c.args.key.message c.if-key-ne0.false (same-service c.config.ensures c.if-key-config.false) has

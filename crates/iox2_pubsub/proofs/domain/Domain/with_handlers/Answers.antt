@@ -14,6 +14,8 @@ returns g c =
     record {
       fresh = fresh;
       settings = c.in-Ok.ensures.settings;
-      numbers_left = λ n low. fresh-numbers {T = g.row.T.Denot} {U = g.row.U.Denot} (keeping _ c.in-Ok.state) c.args.config fresh n low;
-      carries = carries-as {T = g.row.T.Denot} {U = g.row.U.Denot} (keeping _ c.in-Ok.state) c.args.config c.in-Ok.ensures.settings;
+      numbers_left = λ n low.
+          fresh-numbers {T = g.row.T.Denot} {U = g.row.U.Denot} (keeping _ c.in-Ok.state) c.args.config fresh n low;
+      carries = carries-as {T = g.row.T.Denot} {U = g.row.U.Denot}
+          (keeping _ c.in-Ok.state) c.args.config c.in-Ok.ensures.settings;
     }

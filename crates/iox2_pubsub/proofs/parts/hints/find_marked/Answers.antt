@@ -18,7 +18,14 @@ returns-in_default g c = λ held. c.in_default.ensures (held.0, held.1, held.2)
 pub returns : goal.returns
 returns g c =
     let here : get c.args.state.now.books c.in-Some.at.book ≡ Some c.index.result.now =
-    sym (ap (λ (f : Fields g.row.T.Denot g.row.U.Denot). get f.books c.in-Some.at.book) c.state.view_is) ∙ c.index.ensures in
-    let marked = marks-loan {T = g.row.T.Denot} {U = g.row.U.Denot} c.args.state.now c.args.loan.now.publisher c.args.loan.now.number c.in-Some.at.book c.in-Some.at.slot c.in-Some.ensures c.index.result.now here c.mark.result c.mark.ensures in
-    let is = marked-so {T = g.row.T.Denot} {U = g.row.U.Denot} (state_of (kept_of c.args.state.now)) c.args.loan.now.publisher c.args.loan.now.number (written_mark c.mark.result) c.args.wants_written marked in
-    (is.0 (sym c.is_written.ensures ∙ (booleans_Decides c.is_written.result c.args.wants_written).0 (not-not _ c.if-is_written-wants_written.false)), c.in-Some.ensures)
+    sym (ap (λ (f : Fields g.row.T.Denot g.row.U.Denot). get f.books c.in-Some.at.book) c.state.view_is)
+    ∙ c.index.ensures in
+    let marked = marks-loan {T = g.row.T.Denot} {U = g.row.U.Denot} c.args.state.now c.args.loan.now.publisher
+    c.args.loan.now.number c.in-Some.at.book c.in-Some.at.slot c.in-Some.ensures c.index.result.now here c.mark.result
+    c.mark.ensures in
+    let is = marked-so {T = g.row.T.Denot} {U = g.row.U.Denot} (state_of (kept_of c.args.state.now))
+    c.args.loan.now.publisher c.args.loan.now.number (written_mark c.mark.result) c.args.wants_written marked in (
+      is.0 (sym c.is_written.ensures ∙ (booleans_Decides c.is_written.result c.args.wants_written).0
+          (not-not _ c.if-is_written-wants_written.false)),
+      c.in-Some.ensures,
+    )

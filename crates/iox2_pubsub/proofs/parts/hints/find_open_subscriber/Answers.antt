@@ -13,16 +13,31 @@ pub returns : goal.returns
 returns g c =
     let found = c.in-Some.ensures in
     let at : get_or c.state.inside.subscribers.items c.in-Some.place None ≡ Some found.0 =
-    ap (λ (f : Fields g.row.T.Denot g.row.U.Denot). get_or f.subscribers c.in-Some.place None) c.state.view_is ∙ found.1 in
-    let same : c.in-Some-index.subscriber ≡ found.0 = read-at c.state.inside.subscribers.items c.in-Some.place c.index.result.now found.0 c.in-Some-index.subscriber at c.index.ensures c.in-Some-index.is in
-    let is_open : c.subscriber.inside.is_open ≡ found.0.is_open = ap (λ (y : SubscriberFields). y.is_open) (c.subscriber.view_is ∙ same) in
-    (open-subscriber c.args.state.now c.args.id c.requires c.in-Some.place found.0 found.1 found.2 (sym is_open ∙ c.if-not-subscriber.false), found.0, found.1, found.2)
+    ap (λ (f : Fields g.row.T.Denot g.row.U.Denot). get_or f.subscribers c.in-Some.place None) c.state.view_is
+    ∙ found.1 in
+    let same : c.in-Some-index.subscriber ≡ found.0 =
+    read-at c.state.inside.subscribers.items c.in-Some.place c.index.result.now found.0 c.in-Some-index.subscriber at
+    c.index.ensures c.in-Some-index.is in
+    let is_open : c.subscriber.inside.is_open ≡ found.0.is_open =
+    ap (λ (y : SubscriberFields). y.is_open) (c.subscriber.view_is ∙ same) in (
+      open-subscriber c.args.state.now c.args.id c.requires c.in-Some.place found.0 found.1 found.2
+          (sym is_open ∙ c.if-not-subscriber.false),
+      found.0,
+      found.1,
+      found.2,
+    )
 
 pub returns-then-not-subscriber : goal.returns-then-not-subscriber
 returns-then-not-subscriber g c = λ holds.
     let found = c.in-Some.ensures in
     let at : get_or c.state.inside.subscribers.items c.in-Some.place None ≡ Some found.0 =
-    ap (λ (f : Fields g.row.T.Denot g.row.U.Denot). get_or f.subscribers c.in-Some.place None) c.state.view_is ∙ found.1 in
-    let same : c.in-Some-index.subscriber ≡ found.0 = read-at c.state.inside.subscribers.items c.in-Some.place c.index.result.now found.0 c.in-Some-index.subscriber at c.index.ensures c.in-Some-index.is in
-    let is_open : c.subscriber.inside.is_open ≡ found.0.is_open = ap (λ (y : SubscriberFields). y.is_open) (c.subscriber.view_is ∙ same) in
-    true≢false (sym (subscriber-open c.args.state.now c.args.id c.requires c.in-Some.place found.0 found.1 found.2 holds) ∙ sym is_open ∙ c.if-not-subscriber.true)
+    ap (λ (f : Fields g.row.T.Denot g.row.U.Denot). get_or f.subscribers c.in-Some.place None) c.state.view_is
+    ∙ found.1 in
+    let same : c.in-Some-index.subscriber ≡ found.0 =
+    read-at c.state.inside.subscribers.items c.in-Some.place c.index.result.now found.0 c.in-Some-index.subscriber at
+    c.index.ensures c.in-Some-index.is in
+    let is_open : c.subscriber.inside.is_open ≡ found.0.is_open =
+    ap (λ (y : SubscriberFields). y.is_open) (c.subscriber.view_is ∙ same) in
+    true≢false
+    (sym (subscriber-open c.args.state.now c.args.id c.requires c.in-Some.place found.0 found.1 found.2 holds)
+    ∙ sym is_open ∙ c.if-not-subscriber.true)

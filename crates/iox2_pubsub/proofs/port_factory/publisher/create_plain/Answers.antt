@@ -21,21 +21,50 @@ returns-in_err-port-clause-creates g c m s shows =
     let why = c.in_err-port.field-0.0 in
     let made = c.in_err-port.ensures.step in
     let before : State g.row.T.Denot g.row.U.Denot = state_of (kept_of c.domain.inside.state) in
-    let next = created-shows {T = g.row.T.Denot} {U = g.row.U.Denot} c.domain.inside.state c.create_publisher.new.state (settings_with c.args.given.now (marks_of c.args.handler) c.args.segments) (answers_of g.F.BackpressureFn.allows g.G.DegradationFn.allows (c.create_publisher.new.boxes).boxes) c.args.domain.now c.domain.view_is m s before (Some why) shows made.0 made.1 in
+    let next = created-shows {T = g.row.T.Denot} {U = g.row.U.Denot} c.domain.inside.state c.create_publisher.new.state
+    (settings_with c.args.given.now (marks_of c.args.handler) c.args.segments)
+    (answers_of g.F.BackpressureFn.allows g.G.DegradationFn.allows (c.create_publisher.new.boxes).boxes)
+    c.args.domain.now c.domain.view_is m s before (Some why) shows made.0 made.1 in
     rw (refused.1, refused.2) (before, next.0, next.1)
 
 pub returns-in_err-port-clause-refused : goal.returns-in_err-port-clause-refused
 returns-in_err-port-clause-refused g c =
     let refused = err_from_is_err_and c.from_residual.result c.from_residual.ensures.1 in
-    rw refused.1 (creation-refused {T = g.row.T.Denot} {U = g.row.U.Denot} c.domain.inside.state c.create_publisher.new.state c.domain.invariant c.args.domain.now c.domain.view_is c.create_publisher.ensures.others (answers_of g.F.BackpressureFn.allows g.G.DegradationFn.allows (c.create_publisher.new.boxes).boxes) (settings_with c.args.given.now (marks_of c.args.handler) c.args.segments) (Some c.in_err-port.field-0.0) (state_of (kept_of c.domain.inside.state)) c.in_err-port.ensures.step.0 c.in_err-port.ensures.step.1 c.in_err-port.field-0.0 refl)
+    rw refused.1 (creation-refused {T = g.row.T.Denot} {U = g.row.U.Denot} c.domain.inside.state
+    c.create_publisher.new.state c.domain.invariant c.args.domain.now c.domain.view_is c.create_publisher.ensures.others
+    (answers_of g.F.BackpressureFn.allows g.G.DegradationFn.allows (c.create_publisher.new.boxes).boxes)
+    (settings_with c.args.given.now (marks_of c.args.handler) c.args.segments) (Some c.in_err-port.field-0.0)
+    (state_of (kept_of c.domain.inside.state)) c.in_err-port.ensures.step.0 c.in_err-port.ensures.step.1
+    c.in_err-port.field-0.0 refl)
 
 pub returns-in_err-port-clause-leaves : goal.returns-in_err-port-clause-leaves
-returns-in_err-port-clause-leaves g c = creation-leaves {T = g.row.T.Denot} {U = g.row.U.Denot} c.domain.inside.state c.create_publisher.new.state c.domain.invariant c.args.domain.now c.domain.view_is c.create_publisher.ensures.others (answers_of g.F.BackpressureFn.allows g.G.DegradationFn.allows (c.create_publisher.new.boxes).boxes) (settings_with c.args.given.now (marks_of c.args.handler) c.args.segments) (Some c.in_err-port.field-0.0) (state_of (kept_of c.domain.inside.state)) c.in_err-port.ensures.step.0 c.in_err-port.ensures.step.1
+returns-in_err-port-clause-leaves g c = creation-leaves {T = g.row.T.Denot}
+    {U = g.row.U.Denot} c.domain.inside.state c.create_publisher.new.state c.domain.invariant c.args.domain.now
+    c.domain.view_is c.create_publisher.ensures.others
+    (answers_of g.F.BackpressureFn.allows g.G.DegradationFn.allows (c.create_publisher.new.boxes).boxes)
+    (settings_with c.args.given.now (marks_of c.args.handler) c.args.segments) (Some c.in_err-port.field-0.0)
+    (state_of (kept_of c.domain.inside.state)) c.in_err-port.ensures.step.0 c.in_err-port.ensures.step.1
 
 pub returns : goal.returns
 returns g c =
-    let made = was-made {T = g.row.T.Denot} {U = g.row.U.Denot} c.domain.inside.state c.create_publisher.new.state c.domain.invariant c.args.domain.now c.domain.view_is (answers_of g.F.BackpressureFn.allows g.G.DegradationFn.allows (c.create_publisher.new.boxes).boxes) (settings_with c.args.given.now (marks_of c.args.handler) c.args.segments) c.in_ok-port.ensures.step.0 c.in_ok-port.ensures.step.1 c.in_ok-port.ensures.step.2 (record { service_id = c.config.result.now.service_id; id = c.in_ok-port.port.id; place = c.in_ok-port.port.place; strategy = c.args.given.now.strategy; initial_max_slice_len = c.args.given.now.initial_max_slice_len }) (ap (λ (config : ServiceConfig). config.service_id) c.config.ensures) c.in_ok-port.ensures.id c.in_ok-port.ensures.stands in
-    let left = creation-leaves {T = g.row.T.Denot} {U = g.row.U.Denot} c.domain.inside.state c.create_publisher.new.state c.domain.invariant c.args.domain.now c.domain.view_is c.create_publisher.ensures.others (answers_of g.F.BackpressureFn.allows g.G.DegradationFn.allows (c.create_publisher.new.boxes).boxes) (settings_with c.args.given.now (marks_of c.args.handler) c.args.segments) None c.in_ok-port.ensures.step.0 c.in_ok-port.ensures.step.1 c.in_ok-port.ensures.step.2 in
+    let made = was-made {T = g.row.T.Denot} {U = g.row.U.Denot} c.domain.inside.state c.create_publisher.new.state
+    c.domain.invariant c.args.domain.now c.domain.view_is
+    (answers_of g.F.BackpressureFn.allows g.G.DegradationFn.allows (c.create_publisher.new.boxes).boxes)
+    (settings_with c.args.given.now (marks_of c.args.handler) c.args.segments) c.in_ok-port.ensures.step.0
+    c.in_ok-port.ensures.step.1 c.in_ok-port.ensures.step.2
+    (record {
+      service_id = c.config.result.now.service_id;
+      id = c.in_ok-port.port.id;
+      place = c.in_ok-port.port.place;
+      strategy = c.args.given.now.strategy;
+      initial_max_slice_len = c.args.given.now.initial_max_slice_len;
+    }) (ap (λ (config : ServiceConfig). config.service_id) c.config.ensures) c.in_ok-port.ensures.id
+    c.in_ok-port.ensures.stands in
+    let left = creation-leaves {T = g.row.T.Denot} {U = g.row.U.Denot} c.domain.inside.state
+    c.create_publisher.new.state c.domain.invariant c.args.domain.now c.domain.view_is c.create_publisher.ensures.others
+    (answers_of g.F.BackpressureFn.allows g.G.DegradationFn.allows (c.create_publisher.new.boxes).boxes)
+    (settings_with c.args.given.now (marks_of c.args.handler) c.args.segments) None c.in_ok-port.ensures.step.0
+    c.in_ok-port.ensures.step.1 c.in_ok-port.ensures.step.2 in
     record {
       creates = made.creates;
       made = record {
@@ -46,7 +75,8 @@ returns g c =
         overflows = made.overflows;
         never_fails = made.never_fails;
         boxed = box-is _ c.create_publisher.new.state c.in_ok-port.port.id _ c.in_ok-port.ensures.boxed;
-        degrades = degradation-box-is _ c.create_publisher.new.state c.in_ok-port.port.id _ c.in_ok-port.ensures.degrades;
+        degrades =
+            degradation-box-is _ c.create_publisher.new.state c.in_ok-port.port.id _ c.in_ok-port.ensures.degrades;
         strategy = refl;
         longest = refl;
         is_new = made.new_in;

@@ -6,5 +6,7 @@ use Rattle.iox2_pubsub.proofs.publisher.Publisher.has_channel_state.Goals as goa
 
 pub returns : goal.returns
 returns g c =
-    publisher-answer {T = g.row.T.Denot} {U = g.row.U.Denot} c.domain.inside.state c.args.domain.now c.domain.view_is c.domain.invariant c.args.self.now c.requires.there c.requires.placed
-    (λ (s : State g.row.T.Denot g.row.U.Denot) (p : ℕ). has_channel_state s p c.args.channel c.args.connection c.args.state) c.is_sent_in.result c.is_sent_in.ensures
+    publisher-answer {T = g.row.T.Denot} {U = g.row.U.Denot} c.domain.inside.state c.args.domain.now c.domain.view_is
+    c.domain.invariant c.args.self.now c.requires.there c.requires.placed
+    (λ (s : State g.row.T.Denot g.row.U.Denot) (p : ℕ).
+    has_channel_state s p c.args.channel c.args.connection c.args.state) c.is_sent_in.result c.is_sent_in.ensures

@@ -7,4 +7,5 @@ pub lend-requires-clause-unchecked : goal.lend-requires-clause-unchecked
 lend-requires-clause-unchecked g c = λ unchecked. (single-parts c.args.domain.now c.requires.single_valued).0
 
 pub returns-clause-granted : goal.returns-clause-granted
-returns-clause-granted g c = λ loans numbers left numbered. c.lend.ensures.granted loans numbers left numbered (λ checked. absurd (true≢false (sym checked)))
+returns-clause-granted g c = λ loans numbers left numbered.
+    c.lend.ensures.granted loans numbers left numbered (λ checked. absurd (true≢false (sym checked)))

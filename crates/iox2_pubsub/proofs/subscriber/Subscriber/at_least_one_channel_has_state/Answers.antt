@@ -9,12 +9,16 @@ use Rattle.iox2_pubsub.proofs.subscriber.Subscriber.at_least_one_channel_has_sta
 
 pub some_received_in-requires-clause-stands : goal.some_received_in-requires-clause-stands
 some_received_in-requires-clause-stands g c =
-    subscriber-there {T = g.row.T.Denot} {U = g.row.U.Denot} c.domain.inside.state c.domain.invariant c.args.domain.now c.domain.view_is c.args.self.now c.requires.live
+    subscriber-there {T = g.row.T.Denot} {U = g.row.U.Denot} c.domain.inside.state c.domain.invariant c.args.domain.now
+    c.domain.view_is c.args.self.now c.requires.live
 
 pub returns : goal.returns
 returns g c =
-    let at = subscriber-at-place {T = g.row.T.Denot} {U = g.row.U.Denot} c.domain.inside.state c.domain.invariant c.args.domain.now c.domain.view_is c.args.self.now c.requires.live in
+    let at = subscriber-at-place {T = g.row.T.Denot} {U = g.row.U.Denot} c.domain.inside.state c.domain.invariant
+    c.args.domain.now c.domain.view_is c.args.self.now c.requires.live in
     shown-answer {T = g.row.T.Denot} {U = g.row.U.Denot} c.domain.inside.state c.args.domain.now c.domain.view_is
-    (λ (s : State g.row.T.Denot g.row.U.Denot). some_channel_has_state s c.args.self.now.id c.args.channel c.args.state) c.some_received_in.result
+    (λ (s : State g.row.T.Denot g.row.U.Denot). some_channel_has_state s c.args.self.now.id c.args.channel c.args.state)
+    c.some_received_in.result
     (c.some_received_in.ensures at.0 at.1
-    ∙ ap (λ (q : ℕ). some_channel_has_state (state_of (kept_of c.domain.inside.state)) q c.args.channel c.args.state) at.2)
+    ∙ ap (λ (q : ℕ). some_channel_has_state (state_of (kept_of c.domain.inside.state)) q c.args.channel c.args.state)
+    at.2)

@@ -17,21 +17,25 @@ all_closed s q number = list_all (λ p. is_closed (s.channels p q number)) (send
 
 pub all_received_in-were_closed-requires-clause-stands : goal.all_received_in-were_closed-requires-clause-stands
 all_received_in-were_closed-requires-clause-stands g c =
-    subscriber-there {T = g.row.T.Denot} {U = g.row.U.Denot} c.domain.inside.state c.domain.invariant c.args.domain.now c.domain.view_is c.args.self.now c.requires.live
+    subscriber-there {T = g.row.T.Denot} {U = g.row.U.Denot} c.domain.inside.state c.domain.invariant c.args.domain.now
+    c.domain.view_is c.args.self.now c.requires.live
 
 pub returns-clause-sets : goal.returns-clause-sets
 returns-clause-sets g c = λ m s shown.
-    let at = subscriber-at-place {T = g.row.T.Denot} {U = g.row.U.Denot} c.domain.inside.state c.domain.invariant c.args.domain.now c.domain.view_is c.args.self.now c.requires.live in (
+    let at = subscriber-at-place {T = g.row.T.Denot} {U = g.row.U.Denot} c.domain.inside.state c.domain.invariant
+    c.args.domain.now c.domain.view_is c.args.self.now c.requires.live in (
       received_changed s c.args.self.now.id c.args.channel closed_state (with_state c.args.state),
       c.change_channel.ensures.changed m s shown,
       (
         refl,
         shown-answer {T = g.row.T.Denot} {U = g.row.U.Denot} c.domain.inside.state c.args.domain.now c.domain.view_is
-            (λ (s : State g.row.T.Denot g.row.U.Denot). all_closed s c.args.self.now.id c.args.channel) c.all_received_in-were_closed.result
+            (λ (s : State g.row.T.Denot g.row.U.Denot). all_closed s c.args.self.now.id c.args.channel)
+            c.all_received_in-were_closed.result
             (c.all_received_in-were_closed.ensures at.0 at.1
             ∙ ap (λ (q : ℕ). all_closed (state_of (kept_of c.domain.inside.state)) q c.args.channel) at.2) m s shown,
       ),
     )
 
 pub returns-clause-leaves : goal.returns-clause-leaves
-returns-clause-leaves g c = open-leaves c.change_channel.ensures.leaves (λ p other. inl (opening-closes-none c.args.state))
+returns-clause-leaves g c =
+    open-leaves c.change_channel.ensures.leaves (λ p other. inl (opening-closes-none c.args.state))

@@ -8,40 +8,63 @@ use Rattle.iox2_runs.proofs.Services.{single-here, sliced-here}
 use Rattle.iox2_runs.proofs.runs.cells.write_cell_at.Goals as goal
 
 pub payload-requires-clause-single_valued : goal.payload-requires-clause-single_valued
-payload-requires-clause-single_valued g c = single-here {T = g.row.T.Denot} {U = g.row.U.Denot} c.args.domain.now (sym c.is_single_valued.ensures ∙ c.if-is_single_valued.true)
+payload-requires-clause-single_valued g c = single-here {T = g.row.T.Denot} {U = g.row.U.Denot} c.args.domain.now
+    (sym c.is_single_valued.ensures ∙ c.if-is_single_valued.true)
 
 pub returns-then-at-ne0-clause-writes : goal.returns-then-at-ne0-clause-writes
 returns-then-at-ne0-clause-writes g c =
-    cell-past {T = g.row.T.Denot} {U = g.row.U.Denot} c.args.domain.now c.args.loan.loan.number c.args.at c.payload.result.now c.args.value c.if-at-ne0.true c.payload.ensures.cell
+    cell-past {T = g.row.T.Denot} {U = g.row.U.Denot} c.args.domain.now c.args.loan.loan.number c.args.at
+    c.payload.result.now c.args.value c.if-at-ne0.true c.payload.ensures.cell
 
 pub payload_mut-requires-clause-single_valued : goal.payload_mut-requires-clause-single_valued
-payload_mut-requires-clause-single_valued g c = single-here {T = g.row.T.Denot} {U = g.row.U.Denot} c.args.domain.now (sym c.is_single_valued.ensures ∙ c.if-is_single_valued.true)
+payload_mut-requires-clause-single_valued g c = single-here {T = g.row.T.Denot} {U = g.row.U.Denot} c.args.domain.now
+    (sym c.is_single_valued.ensures ∙ c.if-is_single_valued.true)
 
 pub returns-then-is_single_valued-clause-writes : goal.returns-then-is_single_valued-clause-writes
 returns-then-is_single_valued-clause-writes g c =
-    cell-written {T = g.row.T.Denot} {U = g.row.U.Denot} c.args.domain.now c.args.loan.loan.number c.args.at (with_cell_left c.args.domain.now c.args.loan.loan.number (Some c.args.value)) c.args.value
-    c.payload.result.now c.if-at-ne0.false c.payload.ensures.cell (λ m s shown. c.payload_mut.ensures.changes m s (Some c.args.value) shown)
+    cell-written {T = g.row.T.Denot} {U = g.row.U.Denot} c.args.domain.now c.args.loan.loan.number c.args.at
+    (with_cell_left c.args.domain.now c.args.loan.loan.number (Some c.args.value)) c.args.value
+    c.payload.result.now c.if-at-ne0.false c.payload.ensures.cell
+    (λ m s shown. c.payload_mut.ensures.changes m s (Some c.args.value) shown)
 
 pub payload-requires-2-clause-sliced : goal.payload-requires-2-clause-sliced
-payload-requires-2-clause-sliced g c = sliced-here {T = g.row.T.Denot} {U = g.row.U.Denot} c.args.domain.now (sym c.is_single_valued.ensures ∙ c.if-is_single_valued.false) (c.requires.lists_cells (sym c.is_single_valued.ensures ∙ c.if-is_single_valued.false))
+payload-requires-2-clause-sliced g c = sliced-here {T = g.row.T.Denot} {U = g.row.U.Denot} c.args.domain.now
+    (sym c.is_single_valued.ensures ∙ c.if-is_single_valued.false)
+    (c.requires.lists_cells (sym c.is_single_valued.ensures ∙ c.if-is_single_valued.false))
 
 pub returns-then-at-payload-clause-writes : goal.returns-then-at-payload-clause-writes
 returns-then-at-payload-clause-writes g c =
-    subst (λ (it : SampleMutUninit). WritesAt c.args.domain.now c.args.domain.now it.loan.number c.args.at c.args.value false) c.new-loan.ensures
-    (cells-past {T = g.row.T.Denot} {U = g.row.U.Denot} c.args.domain.now c.new-loan.result.sample.loan.number c.args.at c.payload-2.result.now c.args.value c.if-at-payload.true c.payload-2.ensures.reads)
+    subst (λ (it : SampleMutUninit).
+    WritesAt c.args.domain.now c.args.domain.now it.loan.number c.args.at c.args.value false) c.new-loan.ensures
+    (cells-past {T = g.row.T.Denot} {U = g.row.U.Denot} c.args.domain.now c.new-loan.result.sample.loan.number c.args.at
+    c.payload-2.result.now c.args.value c.if-at-payload.true c.payload-2.ensures.reads)
 
 pub payload_mut-cells-requires-clause-sliced : goal.payload_mut-cells-requires-clause-sliced
-payload_mut-cells-requires-clause-sliced g c = sliced-here {T = g.row.T.Denot} {U = g.row.U.Denot} c.args.domain.now (sym c.is_single_valued.ensures ∙ c.if-is_single_valued.false) (c.requires.lists_cells (sym c.is_single_valued.ensures ∙ c.if-is_single_valued.false))
+payload_mut-cells-requires-clause-sliced g c = sliced-here {T = g.row.T.Denot} {U = g.row.U.Denot} c.args.domain.now
+    (sym c.is_single_valued.ensures ∙ c.if-is_single_valued.false)
+    (c.requires.lists_cells (sym c.is_single_valued.ensures ∙ c.if-is_single_valued.false))
 
 pub bounds-cells-at : goal.bounds-cells-at
 bounds-cells-at g c =
-    subst (λ (k : ℕ). c.args.at < k) (cells-alike {T = g.row.T.Denot} {U = g.row.U.Denot} c.args.domain.now c.new-loan.result.sample.loan.number c.payload-2.result.now c.payload_mut-cells.result.now c.payload-2.ensures.reads c.payload_mut-cells.ensures.payload) c.if-at-payload.false
+    subst (λ (k : ℕ). c.args.at < k)
+    (cells-alike {T = g.row.T.Denot} {U = g.row.U.Denot} c.args.domain.now c.new-loan.result.sample.loan.number
+    c.payload-2.result.now c.payload_mut-cells.result.now c.payload-2.ensures.reads c.payload_mut-cells.ensures.payload)
+    c.if-at-payload.false
 
 pub returns-clause-writes : goal.returns-clause-writes
 returns-clause-writes g c =
-    subst (λ (it : SampleMutUninit). WritesAt c.args.domain.now (with_cells_left c.args.domain.now c.new-loan.result.sample.loan.number (slice_set c.payload_mut-cells.result.now c.args.at (Some c.args.value))) it.loan.number c.args.at c.args.value true) c.new-loan.ensures
-    (cells-written {T = g.row.T.Denot} {U = g.row.U.Denot} c.args.domain.now c.new-loan.result.sample.loan.number c.args.at (with_cells_left c.args.domain.now c.new-loan.result.sample.loan.number (slice_set c.payload_mut-cells.result.now c.args.at (Some c.args.value))) c.args.value
+    subst (λ (it : SampleMutUninit). WritesAt c.args.domain.now
+    (with_cells_left c.args.domain.now c.new-loan.result.sample.loan.number
+    (slice_set c.payload_mut-cells.result.now c.args.at (Some c.args.value))) it.loan.number c.args.at c.args.value
+    true) c.new-loan.ensures
+    (cells-written {T = g.row.T.Denot} {U = g.row.U.Denot} c.args.domain.now c.new-loan.result.sample.loan.number
+    c.args.at (with_cells_left c.args.domain.now c.new-loan.result.sample.loan.number
+    (slice_set c.payload_mut-cells.result.now c.args.at (Some c.args.value))) c.args.value
     c.payload_mut-cells.result.now (slice_set c.payload_mut-cells.result.now c.args.at (Some c.args.value))
-    (subst (λ (k : ℕ). c.args.at < k) (cells-alike {T = g.row.T.Denot} {U = g.row.U.Denot} c.args.domain.now c.new-loan.result.sample.loan.number c.payload-2.result.now c.payload_mut-cells.result.now c.payload-2.ensures.reads c.payload_mut-cells.ensures.payload) c.if-at-payload.false)
+    (subst (λ (k : ℕ). c.args.at < k)
+    (cells-alike {T = g.row.T.Denot} {U = g.row.U.Denot} c.args.domain.now c.new-loan.result.sample.loan.number
+    c.payload-2.result.now c.payload_mut-cells.result.now c.payload-2.ensures.reads c.payload_mut-cells.ensures.payload)
+    c.if-at-payload.false)
     c.payload_mut-cells.ensures.payload refl
-    (λ m s shown. c.payload_mut-cells.ensures.changes m s (slice_set c.payload_mut-cells.result.now c.args.at (Some c.args.value)) shown))
+    (λ m s shown. c.payload_mut-cells.ensures.changes m s
+    (slice_set c.payload_mut-cells.result.now c.args.at (Some c.args.value)) shown))

@@ -2,7 +2,8 @@ use Rattle.iox2_domain.specs.Boxes.{answers_of}
 use Rattle.iox2_machine.specs.declared.key.Key.{Key}
 use Rattle.iox2_pubsub.specs.Live.{written_key}
 use Rattle.iox2_runs.proofs.CarriedBlocked.{each_blocked}
-use Rattle.iox2_runs.proofs.CarriedChannels.{connection_missing, connection_passed, connection_held_up, connection_carried}
+use Rattle.iox2_runs.proofs.CarriedChannels.{connection_missing, connection_passed, connection_held_up}
+use Rattle.iox2_runs.proofs.CarriedChannels.{connection_carried}
 use Rattle.iox2_runs.proofs.CarriedLoans.{either-delivery-failure}
 use Rattle.iox2_runs.proofs.LeavingSteps.{leaves-sending}
 use Rattle.iox2_runs.proofs.LiveEntries.{live_written, known_lender, shown_free, shown_waits}
@@ -19,33 +20,55 @@ use Rattle.iox2_runs.proofs.runs.channels.send_to_connection.Goals as goal
 pub returns-then-not-has_channel : goal.returns-then-not-has_channel
 returns-then-not-has_channel g c =
     looks {T = g.row.T.Denot} {U = g.row.U.Denot} _ _ c.args.domain.now c.args.held _ _ (λ table of at.
-    connection_missing {T = g.row.T.Denot} {U = g.row.U.Denot} fixed_handlers _ c.args.domain.now table of c.args.channel (λ low. true≢false (sym (c.if-not-has_channel.ensures.1 low))) c.args.connection)
+    connection_missing {T = g.row.T.Denot} {U = g.row.U.Denot} fixed_handlers _ c.args.domain.now table of
+    c.args.channel (λ low. true≢false (sym (c.if-not-has_channel.ensures.1 low))) c.args.connection)
 
 pub is_blocked-requires : goal.is_blocked-requires
-is_blocked-requires g c = record { live = (live_written {T = g.row.T.Denot} {U = g.row.U.Denot} c.args.domain.now c.args.held c.requires c.in-Written.loan c.in-Written.is).live }
+is_blocked-requires g c =
+    record {
+      live = (live_written {T = g.row.T.Denot}
+          {U = g.row.U.Denot} c.args.domain.now c.args.held c.requires c.in-Written.loan c.in-Written.is).live;
+    }
 
 pub deliver_offset_to_connection-outcome-requires-clause-live : goal.deliver_offset_to_connection-outcome-requires-clause-live
-deliver_offset_to_connection-outcome-requires-clause-live g c = live_written {T = g.row.T.Denot} {U = g.row.U.Denot} c.args.domain.now c.args.held c.requires c.in-Written.loan c.in-Written.is
+deliver_offset_to_connection-outcome-requires-clause-live g c =
+    live_written {T = g.row.T.Denot}
+    {U = g.row.U.Denot} c.args.domain.now c.args.held c.requires c.in-Written.loan c.in-Written.is
 
 pub returns-then-is_blocked : goal.returns-then-is_blocked
 returns-then-is_blocked g c =
     rw c.in-Written.is (looks {T = g.row.T.Denot} {U = g.row.U.Denot} _ _ c.args.domain.now _ _ _ (λ table of at.
-    connection_held_up {T = g.row.T.Denot} {U = g.row.U.Denot} fixed_handlers _ c.args.domain.now table of c.args.channel c.args.connection c.in-Written.loan at
-    (shown_waits {T = g.row.T.Denot} {U = g.row.U.Denot} c.args.domain.now (written_key c.in-Written.loan) (known_lender {T = g.row.T.Denot} {U = g.row.U.Denot} c.args.domain.now c.args.held c.requires c.in-Written.loan c.in-Written.is) c.is_blocked.result c.is_blocked.ensures c.if-is_blocked.true)))
+    connection_held_up {T = g.row.T.Denot} {U = g.row.U.Denot} fixed_handlers _ c.args.domain.now table of
+    c.args.channel c.args.connection c.in-Written.loan at
+    (shown_waits {T = g.row.T.Denot} {U = g.row.U.Denot} c.args.domain.now (written_key c.in-Written.loan)
+    (known_lender {T = g.row.T.Denot} {U = g.row.U.Denot} c.args.domain.now c.args.held c.requires c.in-Written.loan
+    c.in-Written.is) c.is_blocked.result c.is_blocked.ensures c.if-is_blocked.true)))
 
 pub returns-else-is_blocked : goal.returns-else-is_blocked
-returns-else-is_blocked g c = rw (c.in-Written.is, c.send_reply-reply.ensures.reply, c.send_reply-reply.ensures.made) (record {
-  carries = λ table of at.
-      connection_carried {T = g.row.T.Denot} {U = g.row.U.Denot} (answers_of g.F.BackpressureFn.allows g.G.DegradationFn.allows c.args.domain.now.boxes.publishers) _ c.args.domain.now c.deliver_offset_to_connection-outcome.new.domain table _ of
-      c.args.channel c.args.connection c.in-Written.loan c.deliver_offset_to_connection-outcome.result at (c.if-not-has_channel.ensures.0 refl)
-      (shown_free {T = g.row.T.Denot} {U = g.row.U.Denot} c.args.domain.now (written_key c.in-Written.loan) (c.is_blocked.ensures.0 c.if-is_blocked.false)) c.deliver_offset_to_connection-outcome.ensures.sent c.deliver_offset_to_connection-outcome.ensures.spends.blocked
-      (either-delivery-failure c.args.domain.now (written_key c.in-Written.loan) c.deliver_offset_to_connection-outcome.result c.deliver_offset_to_connection-outcome.ensures.errors) refl;
-  leaves = λ table of at.
-      leaves-sending {T = g.row.T.Denot} {U = g.row.U.Denot} c.args.domain.now c.deliver_offset_to_connection-outcome.new.domain table _ of c.in-Written.loan c.deliver_offset_to_connection-outcome.result at c.deliver_offset_to_connection-outcome.ensures.spends.stays
-      (each_blocked _ _ (λ blocked is. ap (λ (k : Key). k.port) is.1) c.deliver_offset_to_connection-outcome.result c.deliver_offset_to_connection-outcome.ensures.spends.blocked) refl;
-})
+returns-else-is_blocked g c =
+    rw (c.in-Written.is, c.send_reply-reply.ensures.reply, c.send_reply-reply.ensures.made) (record {
+      carries = λ table of at.
+          connection_carried {T = g.row.T.Denot} {U = g.row.U.Denot}
+          (answers_of g.F.BackpressureFn.allows g.G.DegradationFn.allows c.args.domain.now.boxes.publishers) _
+          c.args.domain.now c.deliver_offset_to_connection-outcome.new.domain table _ of
+          c.args.channel c.args.connection c.in-Written.loan c.deliver_offset_to_connection-outcome.result at
+          (c.if-not-has_channel.ensures.0 refl)
+          (shown_free {T = g.row.T.Denot} {U = g.row.U.Denot} c.args.domain.now (written_key c.in-Written.loan)
+          (c.is_blocked.ensures.0 c.if-is_blocked.false)) c.deliver_offset_to_connection-outcome.ensures.sent
+          c.deliver_offset_to_connection-outcome.ensures.spends.blocked
+          (either-delivery-failure c.args.domain.now (written_key c.in-Written.loan)
+          c.deliver_offset_to_connection-outcome.result c.deliver_offset_to_connection-outcome.ensures.errors) refl;
+      leaves = λ table of at.
+          leaves-sending {T = g.row.T.Denot} {U = g.row.U.Denot} c.args.domain.now
+          c.deliver_offset_to_connection-outcome.new.domain table _ of c.in-Written.loan
+          c.deliver_offset_to_connection-outcome.result at c.deliver_offset_to_connection-outcome.ensures.spends.stays
+          (each_blocked _ _ (λ blocked is. ap (λ (k : Key). k.port) is.1) c.deliver_offset_to_connection-outcome.result
+          c.deliver_offset_to_connection-outcome.ensures.spends.blocked) refl;
+    })
 
 pub returns-in_default : goal.returns-in_default
 returns-in_default g c =
     looks {T = g.row.T.Denot} {U = g.row.U.Denot} _ _ c.args.domain.now c.args.held _ _ (λ table of at.
-    connection_passed {T = g.row.T.Denot} {U = g.row.U.Denot} fixed_handlers _ c.args.domain.now table of c.args.channel c.args.connection (ap (λ (h : Made). is_written_entry (entry_for h)) at ∙ not_written c.args.held c.in_default.not-Written))
+    connection_passed {T = g.row.T.Denot} {U = g.row.U.Denot} fixed_handlers _ c.args.domain.now table of c.args.channel
+    c.args.connection
+    (ap (λ (h : Made). is_written_entry (entry_for h)) at ∙ not_written c.args.held c.in_default.not-Written))

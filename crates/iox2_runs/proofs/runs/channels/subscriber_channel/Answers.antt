@@ -1,5 +1,6 @@
 use Rattle.iox2_pubsub.proofs.StaysBut.{nothing-is-new}
-use Rattle.iox2_runs.proofs.CarriedChannels.{subscriber_channel_missing, subscriber_channel_carried, subscriber_channel_passed}
+use Rattle.iox2_runs.proofs.CarriedChannels.{subscriber_channel_missing, subscriber_channel_carried}
+use Rattle.iox2_runs.proofs.CarriedChannels.{subscriber_channel_passed}
 use Rattle.iox2_runs.proofs.LiveEntries.{live_subscriber}
 use Rattle.iox2_runs.proofs.TableEntries.{not_subscriber}
 use Rattle.iox2_runs.proofs.TableLooks.{is_subscriber_entry}
@@ -15,19 +16,27 @@ use Rattle.iox2_runs.proofs.runs.channels.subscriber_channel.Goals as goal
 pub returns-then-not-has_channel : goal.returns-then-not-has_channel
 returns-then-not-has_channel g c =
     looks {T = g.row.T.Denot} {U = g.row.U.Denot} _ _ c.args.domain.now c.args.held _ _ (λ table of at.
-    subscriber_channel_missing {T = g.row.T.Denot} {U = g.row.U.Denot} fixed_handlers _ c.args.domain.now table of c.args.channel (λ low. true≢false (sym (c.if-not-has_channel.ensures.1 low))) c.args.call)
+    subscriber_channel_missing {T = g.row.T.Denot} {U = g.row.U.Denot} fixed_handlers _ c.args.domain.now table of
+    c.args.channel (λ low. true≢false (sym (c.if-not-has_channel.ensures.1 low))) c.args.call)
 
 pub subscriber_reply-reply-requires-clause-live : goal.subscriber_reply-reply-requires-clause-live
-subscriber_reply-reply-requires-clause-live g c = live_subscriber {T = g.row.T.Denot} {U = g.row.U.Denot} c.args.domain.now c.args.held c.requires c.in-Subscriber.subscriber c.in-Subscriber.is
+subscriber_reply-reply-requires-clause-live g c = live_subscriber {T = g.row.T.Denot}
+    {U = g.row.U.Denot} c.args.domain.now c.args.held c.requires c.in-Subscriber.subscriber c.in-Subscriber.is
 
 pub returns-in-Subscriber : goal.returns-in-Subscriber
 returns-in-Subscriber g c =
-    rw c.in-Subscriber.is (makes {T = g.row.T.Denot} {U = g.row.U.Denot} _ _ c.args.domain.now c.subscriber_reply-reply.new.domain _ _ _ Nothing (λ table of at.
-    subscriber_channel_carried {T = g.row.T.Denot} {U = g.row.U.Denot} fixed_handlers _ c.args.domain.now c.subscriber_reply-reply.new.domain table of c.in-Subscriber.subscriber c.args.channel c.args.call c.subscriber_reply-reply.result at
+    rw c.in-Subscriber.is (makes {T = g.row.T.Denot}
+    {U = g.row.U.Denot} _ _ c.args.domain.now c.subscriber_reply-reply.new.domain _ _ _ Nothing (λ table of at.
+    subscriber_channel_carried {T = g.row.T.Denot} {U = g.row.U.Denot} fixed_handlers _ c.args.domain.now
+    c.subscriber_reply-reply.new.domain table of c.in-Subscriber.subscriber c.args.channel c.args.call
+    c.subscriber_reply-reply.result at
     (c.if-not-has_channel.ensures.0 refl) c.subscriber_reply-reply.ensures.replies)
-    c.subscriber_reply-reply.ensures.stays (nothing-is-new {T = g.row.T.Denot} {U = g.row.U.Denot} c.args.domain.now) tt)
+    c.subscriber_reply-reply.ensures.stays
+    (nothing-is-new {T = g.row.T.Denot} {U = g.row.U.Denot} c.args.domain.now) tt)
 
 pub returns-in_default : goal.returns-in_default
 returns-in_default g c =
     looks {T = g.row.T.Denot} {U = g.row.U.Denot} _ _ c.args.domain.now c.args.held _ _ (λ table of at.
-    subscriber_channel_passed {T = g.row.T.Denot} {U = g.row.U.Denot} fixed_handlers _ c.args.domain.now table of c.args.channel c.args.call (ap (λ (h : Made). is_subscriber_entry (entry_for h)) at ∙ not_subscriber c.args.held c.in_default.not-Subscriber))
+    subscriber_channel_passed {T = g.row.T.Denot} {U = g.row.U.Denot} fixed_handlers _ c.args.domain.now table of
+    c.args.channel c.args.call (ap (λ (h : Made). is_subscriber_entry (entry_for h)) at
+    ∙ not_subscriber c.args.held c.in_default.not-Subscriber))

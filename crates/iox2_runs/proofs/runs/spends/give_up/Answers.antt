@@ -13,19 +13,29 @@ use Rattle.std.proofs.Common.{refl, ap, ◌∙◌}
 use Rattle.iox2_runs.proofs.runs.spends.give_up.Goals as goal
 
 pub give_up-requires : goal.give_up-requires
-give_up-requires g c = record { live = live_blocked {T = g.row.T.Denot} {U = g.row.U.Denot} c.args.domain.now c.args.held c.requires c.in-Blocked.blocked c.in-Blocked.is }
+give_up-requires g c = record {
+  live = live_blocked {T = g.row.T.Denot}
+      {U = g.row.U.Denot} c.args.domain.now c.args.held c.requires c.in-Blocked.blocked c.in-Blocked.is;
+}
 
 pub returns-in-Blocked : goal.returns-in-Blocked
-returns-in-Blocked g c = rw (c.in-Blocked.is, c.send_reply-reply.ensures.reply, c.send_reply-reply.ensures.made) (record {
-  carries = λ table of at.
-      goes_on_carried {T = g.row.T.Denot} {U = g.row.U.Denot} _ c.args.domain.now c.give_up.new.domain table _ of _ (give_up_goes (answers_of g.F.BackpressureFn.allows g.G.DegradationFn.allows c.args.domain.now.boxes.publishers) of) c.in-Blocked.blocked c.give_up.result at
-      c.give_up.ensures.gives_up c.give_up.ensures.goes_on.blocked refl;
-  leaves = λ table of at.
-      leaves-going-on {T = g.row.T.Denot} {U = g.row.U.Denot} c.args.domain.now c.give_up.new.domain table _ of c.in-Blocked.blocked c.give_up.result at c.give_up.ensures.goes_on.stays
-      (each_blocked _ _ (λ blocked is. ap (λ (k : Key). k.port) is.1) c.give_up.result c.give_up.ensures.goes_on.blocked) refl;
-})
+returns-in-Blocked g c =
+    rw (c.in-Blocked.is, c.send_reply-reply.ensures.reply, c.send_reply-reply.ensures.made) (record {
+      carries = λ table of at.
+          goes_on_carried {T = g.row.T.Denot} {U = g.row.U.Denot} _ c.args.domain.now c.give_up.new.domain table _ of _
+          (give_up_goes (answers_of g.F.BackpressureFn.allows g.G.DegradationFn.allows
+          c.args.domain.now.boxes.publishers) of) c.in-Blocked.blocked c.give_up.result at
+          c.give_up.ensures.gives_up c.give_up.ensures.goes_on.blocked refl;
+      leaves = λ table of at.
+          leaves-going-on {T = g.row.T.Denot} {U = g.row.U.Denot} c.args.domain.now c.give_up.new.domain table _ of
+          c.in-Blocked.blocked c.give_up.result at c.give_up.ensures.goes_on.stays
+          (each_blocked _ _
+          (λ blocked is. ap (λ (k : Key). k.port) is.1) c.give_up.result c.give_up.ensures.goes_on.blocked) refl;
+    })
 
 pub returns-in_default : goal.returns-in_default
 returns-in_default g c =
     looks {T = g.row.T.Denot} {U = g.row.U.Denot} _ _ c.args.domain.now c.args.held _ _ (λ table of at.
-    goes_on_passed {T = g.row.T.Denot} {U = g.row.U.Denot} _ c.args.domain.now c.args.domain.now table table of _ (give_up_goes fixed_handlers of) (ap (λ (h : Made). is_blocked_entry (entry_for h)) at ∙ not_blocked c.args.held c.in_default.not-Blocked))
+    goes_on_passed {T = g.row.T.Denot} {U = g.row.U.Denot} _ c.args.domain.now c.args.domain.now table table of _
+    (give_up_goes fixed_handlers of)
+    (ap (λ (h : Made). is_blocked_entry (entry_for h)) at ∙ not_blocked c.args.held c.in_default.not-Blocked))

@@ -15,10 +15,15 @@ use Rattle.std.proofs.Common.{refl, ap, ◌∙◌}
 use Rattle.iox2_runs.proofs.runs.spends.send.Goals as goal
 
 pub is_blocked-requires : goal.is_blocked-requires
-is_blocked-requires g c = record { live = (live_written {T = g.row.T.Denot} {U = g.row.U.Denot} c.args.domain.now c.args.held c.requires c.in-Written.loan c.in-Written.is).live }
+is_blocked-requires g c =
+    record {
+      live = (live_written {T = g.row.T.Denot}
+          {U = g.row.U.Denot} c.args.domain.now c.args.held c.requires c.in-Written.loan c.in-Written.is).live;
+    }
 
 pub send-requires-clause-live : goal.send-requires-clause-live
-send-requires-clause-live g c = live_written {T = g.row.T.Denot} {U = g.row.U.Denot} c.args.domain.now c.args.held c.requires c.in-Written.loan c.in-Written.is
+send-requires-clause-live g c = live_written {T = g.row.T.Denot}
+    {U = g.row.U.Denot} c.args.domain.now c.args.held c.requires c.in-Written.loan c.in-Written.is
 
 pub send-requires-clause-unblocked : goal.send-requires-clause-unblocked
 send-requires-clause-unblocked g c = c.is_blocked.ensures.0 c.if-is_blocked.false
@@ -26,21 +31,31 @@ send-requires-clause-unblocked g c = c.is_blocked.ensures.0 c.if-is_blocked.fals
 pub returns-then-is_blocked : goal.returns-then-is_blocked
 returns-then-is_blocked g c =
     rw c.in-Written.is (looks {T = g.row.T.Denot} {U = g.row.U.Denot} _ _ c.args.domain.now _ _ _ (λ table of at.
-    send_held_up {T = g.row.T.Denot} {U = g.row.U.Denot} fixed_handlers _ c.args.domain.now c.args.domain.now table table of c.in-Written.loan at
-    (shown_waits {T = g.row.T.Denot} {U = g.row.U.Denot} c.args.domain.now (written_key c.in-Written.loan) (known_lender {T = g.row.T.Denot} {U = g.row.U.Denot} c.args.domain.now c.args.held c.requires c.in-Written.loan c.in-Written.is) c.is_blocked.result c.is_blocked.ensures c.if-is_blocked.true)))
+    send_held_up {T = g.row.T.Denot}
+    {U = g.row.U.Denot} fixed_handlers _ c.args.domain.now c.args.domain.now table table of c.in-Written.loan at
+    (shown_waits {T = g.row.T.Denot} {U = g.row.U.Denot} c.args.domain.now (written_key c.in-Written.loan)
+    (known_lender {T = g.row.T.Denot} {U = g.row.U.Denot} c.args.domain.now c.args.held c.requires c.in-Written.loan
+    c.in-Written.is) c.is_blocked.result c.is_blocked.ensures c.if-is_blocked.true)))
 
 pub returns-else-is_blocked : goal.returns-else-is_blocked
-returns-else-is_blocked g c = rw (c.in-Written.is, c.send_reply-reply.ensures.reply, c.send_reply-reply.ensures.made) (record {
-  carries = λ table of at.
-      send_carried {T = g.row.T.Denot} {U = g.row.U.Denot} (answers_of g.F.BackpressureFn.allows g.G.DegradationFn.allows c.args.domain.now.boxes.publishers) _ c.args.domain.now c.send.new.domain table _ of c.in-Written.loan c.send.result at
-      (shown_free {T = g.row.T.Denot} {U = g.row.U.Denot} c.args.domain.now (written_key c.in-Written.loan) (c.is_blocked.ensures.0 c.if-is_blocked.false)) c.send.ensures.sent c.send.ensures.spends.blocked
-      (either-failure c.args.domain.now (written_key c.in-Written.loan) c.send.result c.send.ensures.errors) refl;
-  leaves = λ table of at.
-      leaves-sending {T = g.row.T.Denot} {U = g.row.U.Denot} c.args.domain.now c.send.new.domain table _ of c.in-Written.loan c.send.result at c.send.ensures.spends.stays
-      (each_blocked _ _ (λ blocked is. ap (λ (k : Key). k.port) is.1) c.send.result c.send.ensures.spends.blocked) refl;
-})
+returns-else-is_blocked g c =
+    rw (c.in-Written.is, c.send_reply-reply.ensures.reply, c.send_reply-reply.ensures.made) (record {
+      carries = λ table of at.
+          send_carried {T = g.row.T.Denot} {U = g.row.U.Denot}
+          (answers_of g.F.BackpressureFn.allows g.G.DegradationFn.allows c.args.domain.now.boxes.publishers) _
+          c.args.domain.now c.send.new.domain table _ of c.in-Written.loan c.send.result at
+          (shown_free {T = g.row.T.Denot} {U = g.row.U.Denot} c.args.domain.now (written_key c.in-Written.loan)
+          (c.is_blocked.ensures.0 c.if-is_blocked.false)) c.send.ensures.sent c.send.ensures.spends.blocked
+          (either-failure c.args.domain.now (written_key c.in-Written.loan) c.send.result c.send.ensures.errors) refl;
+      leaves = λ table of at.
+          leaves-sending {T = g.row.T.Denot} {U = g.row.U.Denot} c.args.domain.now c.send.new.domain table _ of
+          c.in-Written.loan c.send.result at c.send.ensures.spends.stays
+          (each_blocked _ _ (λ blocked is. ap (λ (k : Key). k.port) is.1) c.send.result c.send.ensures.spends.blocked)
+          refl;
+    })
 
 pub returns-in_default : goal.returns-in_default
 returns-in_default g c =
     looks {T = g.row.T.Denot} {U = g.row.U.Denot} _ _ c.args.domain.now c.args.held _ _ (λ table of at.
-    send_passed {T = g.row.T.Denot} {U = g.row.U.Denot} fixed_handlers _ c.args.domain.now c.args.domain.now table table of (ap (λ (h : Made). is_written_entry (entry_for h)) at ∙ not_written c.args.held c.in_default.not-Written))
+    send_passed {T = g.row.T.Denot} {U = g.row.U.Denot} fixed_handlers _ c.args.domain.now c.args.domain.now table table
+    of (ap (λ (h : Made). is_written_entry (entry_for h)) at ∙ not_written c.args.held c.in_default.not-Written))

@@ -10,5 +10,9 @@ pub returns-clause-steps : goal.returns-clause-steps
 returns-clause-steps c =
     let text = c.args.self.now.rest.now in
     let (below, is, before) = c.in-Some.ensures in
-    rw (c.without_carriage_return.ensures, take_all (length text - (c.in-Some.end + 1)) (drop (c.in-Some.end + 1) text) (omega (arith, length-drop (c.in-Some.end + 1) text)))
+    rw (
+      c.without_carriage_return.ensures,
+      take_all (length text - (c.in-Some.end + 1)) (drop (c.in-Some.end + 1) text)
+          (omega (arith, length-drop (c.in-Some.end + 1) text)),
+    )
     (lines-cons text c.in-Some.end below is before)

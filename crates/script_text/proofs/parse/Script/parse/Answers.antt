@@ -1,4 +1,5 @@
-use Rattle.std.proofs.Common.{[], ◌∷◌, ◌++◌, ◌≡◌, length, refl, sym, ap, ◌∙◌, append_assoc, append-nil, length-append, inr, arith}
+use Rattle.std.proofs.Common.{[], ◌∷◌, ◌++◌, ◌≡◌, length, refl, sym, ap, ◌∙◌, append_assoc, append-nil, length-append}
+use Rattle.std.proofs.Common.{inr, arith}
 use Rattle.std.proofs.lemmas.Iterator.Consumers.{YieldsList-from_first, count_from_yields_List}
 use Rattle.std.specs.Str.Lines.{lines}
 use Rattle.script_text.proofs.ScriptTextLemmas.{NamesCommands-append, NamesCommands-length}
@@ -11,7 +12,12 @@ loop-line-init c = (
   rw c.into_iter-line-iterator.ensures.into_iter_gives c.in-Some.ensures.steps,
   c.in-Some-domain_of.ensures.reads,
   rw c.in_ok-commands.ensures.items tt,
-  omega (arith, c.in_ok-commands.ensures.capacity, count_from_yields_List _ c.count.result c.count.ensures.ran (YieldsList-from_first (λ line. line.now) (λ text. lines text.rest.now) (lines c.args.text.now) refl)),
+  omega (
+    arith,
+    c.in_ok-commands.ensures.capacity,
+    count_from_yields_List _ c.count.result c.count.ensures.ran
+        (YieldsList-from_first (λ line. line.now) (λ text. lines text.rest.now) (lines c.args.text.now) refl),
+  ),
 )
 
 pub loop-line-preserved : goal.loop-line-preserved
@@ -21,9 +27,12 @@ loop-line-preserved c =
     let others = lines c.next-in-loop-line.new.self.rest.now in (
       first,
       before ++ line ∷ [],
-      parts ∙ ap (λ z. first ∷ (before ++ z)) c.in-Some-line.ensures.steps ∙ ap (λ z. first ∷ z) (sym (append_assoc before (line ∷ []) others)),
+      parts ∙ ap (λ z. first ∷ (before ++ z)) c.in-Some-line.ensures.steps
+          ∙ ap (λ z. first ∷ z) (sym (append_assoc before (line ∷ []) others)),
       domain,
-      rw c.push_reserved.ensures.items (NamesCommands-append before c.loop-line.commands.items line c.in-Some-command_of.command names c.in-Some-command_of.ensures.reads),
+      rw c.push_reserved.ensures.items
+          (NamesCommands-append before c.loop-line.commands.items line c.in-Some-command_of.command names
+          c.in-Some-command_of.ensures.reads),
       omega (arith, c.push_reserved.ensures.capacity, room),
     )
 
@@ -31,8 +40,15 @@ pub push_reserved-requires : goal.push_reserved-requires
 push_reserved-requires c =
     let (first, before, parts, domain, names, room) = c.loop-line.invariant in
     let others = lines c.next-in-loop-line.new.self.rest.now in
-    let all : lines c.args.text.now ≡ first ∷ (before ++ c.in-Some-line.line.now ∷ others) = parts ∙ ap (λ z. first ∷ (before ++ z)) c.in-Some-line.ensures.steps in
-    omega (arith, room, ap length all, length-append before (c.in-Some-line.line.now ∷ others), NamesCommands-length before c.loop-line.commands.items names)
+    let all : lines c.args.text.now ≡ first ∷ (before ++ c.in-Some-line.line.now ∷ others) =
+    parts ∙ ap (λ z. first ∷ (before ++ z)) c.in-Some-line.ensures.steps in
+    omega (
+      arith,
+      room,
+      ap length all,
+      length-append before (c.in-Some-line.line.now ∷ others),
+      NamesCommands-length before c.loop-line.commands.items names,
+    )
 
 pub returns-in_default-command_of-clause-err : goal.returns-in_default-command_of-clause-err
 returns-in_default-command_of-clause-err c =
@@ -57,7 +73,8 @@ returns-clause-ok c =
     record {
       first = first;
       others = before;
-      parts = parts ∙ ap (λ z. first ∷ (before ++ z)) c.in-None.ensures.steps.0 ∙ ap (λ z. first ∷ z) (append-nil before);
+      parts =
+          parts ∙ ap (λ z. first ∷ (before ++ z)) c.in-None.ensures.steps.0 ∙ ap (λ z. first ∷ z) (append-nil before);
       domain = domain;
       names = names;
     }

@@ -7,5 +7,7 @@ use Rattle.script_text.specs.ScriptText.{NamesCommands}
 use Rattle.script_text.proofs.parse.Script.parse.Given as goal
 
 abbrev pub invariant-loop-line : goal.invariant-loop-line
-invariant-loop-line l = (first : List ℕ) × (before : List (List ℕ)) × (lines l.text ≡ first ∷ (before ++ lines l.line-iterator.rest.now))
-    × NamesDomain first l.config × NamesCommands before l.commands.items × (length (lines l.text) ≤ vec_capacity l.commands)
+invariant-loop-line l =
+    (first : List ℕ) × (before : List (List ℕ)) × (lines l.text ≡ first ∷ (before ++ lines l.line-iterator.rest.now))
+    × NamesDomain first l.config × NamesCommands before l.commands.items
+    × (length (lines l.text) ≤ vec_capacity l.commands)

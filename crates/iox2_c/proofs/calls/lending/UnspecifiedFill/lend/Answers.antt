@@ -17,12 +17,20 @@ returns-in-Ok-clause-lends c = λ m s shown.
         written.0,
         (lends.2).0,
         (lends.2).1,
-        default-grants s lends.0 wrote.2 (publisher_id (as_publisher c.args.publisher.now)) (unwritten_number (as_unwritten c.in-Ok.loan)) next wrote.0 wrote.1 (λ byte. Unit {0}) written.0
+        default-grants s lends.0 wrote.2 (publisher_id (as_publisher c.args.publisher.now))
+            (unwritten_number (as_unwritten c.in-Ok.loan)) next wrote.0 wrote.1 (λ byte. Unit {0}) written.0
             (any-bytes written.0) (lends.2).0 c.args.len (lends.2).2 wrote.3,
       ),
     )
 
 pub returns-in-Err-clause-lends : goal.returns-in-Err-clause-lends
 returns-in-Err-clause-lends c = λ m s shown.
-    let lends = c.in-Err.ensures.lends m s shown in
-    (lends.0, lends.1, ((lends.2).0, default-refused s lends.0 (publisher_id (as_publisher c.args.publisher.now)) c.in-Err.error (λ byte. Unit {0}) c.args.len (lends.2).1))
+    let lends = c.in-Err.ensures.lends m s shown in (
+      lends.0,
+      lends.1,
+      (
+        (lends.2).0,
+        default-refused s lends.0
+            (publisher_id (as_publisher c.args.publisher.now)) c.in-Err.error (λ byte. Unit {0}) c.args.len (lends.2).1,
+      ),
+    )

@@ -3,23 +3,65 @@ use Rattle.std.specs.List.{All}
 use Rattle.std.proofs.lemmas.Bool.{true≢false}
 use Rattle.iox2_pubsub.specs.declared.slice.publisher.loan_located.LocatedLoan.{LocatedLoan}
 use Rattle.iox2_pubsub.proofs.DefaultSlices.{all-answers}
-use Rattle.iox2_pubsub.proofs.LocatedLoans.{granted-out, granted-several, granted-sound, may-lend, starts, was-located, was-refused}
+use Rattle.iox2_pubsub.proofs.LocatedLoans.{granted-out, granted-several, granted-sound, may-lend, starts, was-located}
+use Rattle.iox2_pubsub.proofs.LocatedLoans.{was-refused}
 use Rattle.iox2_pubsub.proofs.slice.publisher.Publisher.loan_slice_located.Goals as goal
 
 pub loan-requires : goal.loan-requires
-loan-requires g c = let it = may-lend {T = g.row.T.Denot} {U = g.row.U.Denot} c.args.slice_len c.domain.inside.state c.domain.invariant c.args.domain.now c.domain.view_is c.args.self.now.publisher c.requires.ready in record { agrees = c.domain.invariant; stands = it.0; unchecked = λ no. absurd (true≢false no); single = it.1 }
+loan-requires g c = let it = may-lend {T = g.row.T.Denot} {U = g.row.U.Denot} c.args.slice_len c.domain.inside.state
+    c.domain.invariant c.args.domain.now c.domain.view_is c.args.self.now.publisher c.requires.ready in
+    record { agrees = c.domain.invariant; stands = it.0; unchecked = λ no. absurd (true≢false no); single = it.1 }
 
 pub fill_from_fn-start-requires-clause-agrees : goal.fill_from_fn-start-requires-clause-agrees
-fill_from_fn-start-requires-clause-agrees g c = granted-sound {T = g.row.T.Denot} {U = g.row.U.Denot} g.U.Default.is_default c.args.slice_len c.domain.inside.state c.loan.new.state c.domain.invariant c.args.domain.now c.domain.view_is c.args.self.now.publisher c.requires.ready c.loan.result c.loan.ensures.reaches c.in-Ok.loan c.in-Ok.is c.in-Ok.ensures.named c.in-Ok.ensures.lies
+fill_from_fn-start-requires-clause-agrees g c =
+    granted-sound {T = g.row.T.Denot} {U = g.row.U.Denot} g.U.Default.is_default c.args.slice_len c.domain.inside.state
+    c.loan.new.state c.domain.invariant c.args.domain.now c.domain.view_is c.args.self.now.publisher c.requires.ready
+    c.loan.result c.loan.ensures.reaches c.in-Ok.loan c.in-Ok.is c.in-Ok.ensures.named c.in-Ok.ensures.lies
 
 pub fill_from_fn-start-requires-clause-several : goal.fill_from_fn-start-requires-clause-several
-fill_from_fn-start-requires-clause-several g c = granted-several {T = g.row.T.Denot} {U = g.row.U.Denot} g.U.Default.is_default c.args.slice_len c.domain.inside.state c.loan.new.state c.domain.invariant c.args.domain.now c.domain.view_is c.args.self.now.publisher c.requires.ready c.loan.result c.loan.ensures.reaches c.in-Ok.loan c.in-Ok.is c.in-Ok.ensures.named c.in-Ok.ensures.lies
+fill_from_fn-start-requires-clause-several g c =
+    granted-several {T = g.row.T.Denot} {U = g.row.U.Denot} g.U.Default.is_default c.args.slice_len
+    c.domain.inside.state c.loan.new.state c.domain.invariant c.args.domain.now c.domain.view_is
+    c.args.self.now.publisher c.requires.ready c.loan.result c.loan.ensures.reaches c.in-Ok.loan c.in-Ok.is
+    c.in-Ok.ensures.named c.in-Ok.ensures.lies
 
 pub fill_from_fn-start-requires-clause-live : goal.fill_from_fn-start-requires-clause-live
-fill_from_fn-start-requires-clause-live g c = granted-out {T = g.row.T.Denot} {U = g.row.U.Denot} g.U.Default.is_default c.args.slice_len c.domain.inside.state c.loan.new.state c.domain.invariant c.args.domain.now c.domain.view_is c.args.self.now.publisher c.requires.ready c.loan.result c.loan.ensures.reaches c.in-Ok.loan c.in-Ok.is c.in-Ok.ensures.named c.in-Ok.ensures.lies
+fill_from_fn-start-requires-clause-live g c =
+    granted-out {T = g.row.T.Denot} {U = g.row.U.Denot} g.U.Default.is_default c.args.slice_len c.domain.inside.state
+    c.loan.new.state c.domain.invariant c.args.domain.now c.domain.view_is c.args.self.now.publisher c.requires.ready
+    c.loan.result c.loan.ensures.reaches c.in-Ok.loan c.in-Ok.is c.in-Ok.ensures.named c.in-Ok.ensures.lies
 
 pub returns-in-Ok : goal.returns-in-Ok
-returns-in-Ok g c = let all : All g.T.Default.is_default c.fill_from_fn-start.ensures.0 = all-answers _ g.T.Default.is_default (λ f i value h stepped. search rules) _ c.fill_from_fn-start.ensures.0 c.fill_from_fn-start.ensures.1 in let it = was-located {T = g.row.T.Denot} {U = g.row.U.Denot} g.U.Default.is_default c.args.slice_len c.domain.inside.state c.loan.new.state c.domain.invariant c.args.domain.now c.domain.view_is c.args.self.now.publisher c.requires.ready c.loan.result c.loan.ensures.reaches c.in-Ok.loan c.in-Ok.is c.in-Ok.ensures.named c.in-Ok.ensures.lies c.fill_from_fn-start.new.state c.fill_from_fn-start.ensures.0 c.fill_from_fn-start.ensures.2 _ c.located.ensures.handle (LocatedLoan g.row.T.Denot) c.located.result g.T.Default.is_default all in record { lends = it.lends; granted = λ loans numbers left numbered short. refl; loan = it.loan; reads = (c.fill_from_fn-start.ensures.0, all, it.size, it.reads); start = starts _ _ _ _ c.located.ensures.start c.fill_from_fn-start.ensures.3 it.size; refused = tt; leaves = it.leaves }
+returns-in-Ok g c = let all : All g.T.Default.is_default c.fill_from_fn-start.ensures.0 = all-answers _
+    g.T.Default.is_default (λ f i value h stepped. search rules) _ c.fill_from_fn-start.ensures.0
+    c.fill_from_fn-start.ensures.1 in let it =
+    was-located {T = g.row.T.Denot} {U = g.row.U.Denot} g.U.Default.is_default c.args.slice_len c.domain.inside.state
+    c.loan.new.state c.domain.invariant c.args.domain.now c.domain.view_is c.args.self.now.publisher c.requires.ready
+    c.loan.result c.loan.ensures.reaches c.in-Ok.loan c.in-Ok.is c.in-Ok.ensures.named c.in-Ok.ensures.lies
+    c.fill_from_fn-start.new.state c.fill_from_fn-start.ensures.0 c.fill_from_fn-start.ensures.2 _
+    c.located.ensures.handle (LocatedLoan g.row.T.Denot) c.located.result g.T.Default.is_default all in
+    record {
+      lends = it.lends;
+      granted = λ loans numbers left numbered short. refl;
+      loan = it.loan;
+      reads = (c.fill_from_fn-start.ensures.0, all, it.size, it.reads);
+      start = starts _ _ _ _ c.located.ensures.start c.fill_from_fn-start.ensures.3 it.size;
+      refused = tt;
+      leaves = it.leaves;
+    }
 
 pub returns-in-Err : goal.returns-in-Err
-returns-in-Err g c = let it = was-refused {T = g.row.T.Denot} {U = g.row.U.Denot} g.U.Default.is_default c.args.slice_len c.domain.inside.state c.loan.new.state c.domain.invariant c.args.domain.now c.domain.view_is c.args.self.now.publisher c.requires.ready c.loan.result c.loan.ensures.reaches c.in-Err.error c.in-Err.is (LocatedLoan g.row.T.Denot) g.T.Default.is_default in record { lends = it.lends; granted = λ loans numbers left numbered short. absurd (it.none loans numbers left numbered short); loan = tt; reads = tt; start = tt; refused = it.refused; leaves = it.leaves }
+returns-in-Err g c = let it = was-refused {T = g.row.T.Denot} {U = g.row.U.Denot} g.U.Default.is_default
+    c.args.slice_len c.domain.inside.state c.loan.new.state c.domain.invariant c.args.domain.now c.domain.view_is
+    c.args.self.now.publisher c.requires.ready c.loan.result c.loan.ensures.reaches c.in-Err.error c.in-Err.is
+    (LocatedLoan g.row.T.Denot) g.T.Default.is_default in
+    record {
+      lends = it.lends;
+      granted = λ loans numbers left numbered short.
+          absurd (it.none loans numbers left numbered short);
+      loan = tt;
+      reads = tt;
+      start = tt;
+      refused = it.refused;
+      leaves = it.leaves;
+    }

@@ -5,7 +5,23 @@ use Rattle.iox2_pubsub.proofs.PlacedLoans.{unwritten-lies}
 use Rattle.iox2_pubsub.proofs.slice.sample_mut_uninit.SampleMutUninit.write_unspecified.Goals as goal
 
 pub write_loan_unspecified-loan-requires : goal.write_loan_unspecified-loan-requires
-write_loan_unspecified-loan-requires g c = record { agrees = c.domain.invariant; several = several-inside {T = g.row.T.Denot} {U = g.row.U.Denot} _ c.args.domain.now c.domain.view_is c.requires.sliced; lies = unwritten-lies {T = g.row.T.Denot} {U = g.row.U.Denot} c.domain.inside.state c.domain.invariant c.args.domain.now c.domain.view_is c.args.self.sample c.requires.live; live = unwritten-out {T = g.row.T.Denot} {U = g.row.U.Denot} _ c.args.domain.now c.domain.view_is c.args.self.sample c.requires.live }
+write_loan_unspecified-loan-requires g c =
+    record {
+      agrees = c.domain.invariant;
+      several = several-inside {T = g.row.T.Denot}
+          {U = g.row.U.Denot} _ c.args.domain.now c.domain.view_is c.requires.sliced;
+      lies = unwritten-lies {T = g.row.T.Denot} {U = g.row.U.Denot} c.domain.inside.state c.domain.invariant
+          c.args.domain.now c.domain.view_is c.args.self.sample c.requires.live;
+      live = unwritten-out {T = g.row.T.Denot}
+          {U = g.row.U.Denot} _ c.args.domain.now c.domain.view_is c.args.self.sample c.requires.live;
+    }
 
 pub returns : goal.returns
-returns g c = let it = was-filled {T = g.row.T.Denot} {U = g.row.U.Denot} c.domain.inside.state c.write_loan_unspecified-loan.new.state c.domain.invariant c.args.domain.now c.domain.view_is c.args.self.sample c.requires.live c.write_loan_unspecified-loan.ensures.writes.0 c.write_loan_unspecified-loan.ensures.writes.1 c.write_loan_unspecified-loan.result c.write_loan_unspecified-loan.ensures.same in rw c.written.ensures (record { written = (c.write_loan_unspecified-loan.ensures.writes.0, it.written, it.shown); becomes = it.becomes })
+returns g c = let it = was-filled {T = g.row.T.Denot} {U = g.row.U.Denot} c.domain.inside.state
+    c.write_loan_unspecified-loan.new.state c.domain.invariant c.args.domain.now c.domain.view_is c.args.self.sample
+    c.requires.live c.write_loan_unspecified-loan.ensures.writes.0 c.write_loan_unspecified-loan.ensures.writes.1
+    c.write_loan_unspecified-loan.result c.write_loan_unspecified-loan.ensures.same in
+    rw c.written.ensures (record {
+      written = (c.write_loan_unspecified-loan.ensures.writes.0, it.written, it.shown);
+      becomes = it.becomes;
+    })

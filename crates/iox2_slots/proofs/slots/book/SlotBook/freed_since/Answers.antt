@@ -5,7 +5,8 @@ use Rattle.iox2_slots.proofs.slots.book.SlotBook.freed_since.Goals as goal
 
 pub returns-clause-free : goal.returns-clause-free
 returns-clause-free c =
-    let P : ℕ → Type 0 = λ slot. (slot < length c.args.self.now.holders) × (slice_index c.args.self.now.holders slot ≡ 0) in
+    let P : ℕ → Type 0 =
+    λ slot. (slot < length c.args.self.now.holders) × (slice_index c.args.self.now.holders slot ≡ 0) in
     let each : All P c.self.inside.free.items = rw (← c.self.view_is) (each_free _ _ c.self.invariant.exact) in
     let shown : All P c.deref.result.now = rw c.deref.ensures.value each in
     All-take P _ _ (All-drop P _ _ shown)

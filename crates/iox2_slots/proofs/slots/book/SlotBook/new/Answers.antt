@@ -6,7 +6,8 @@ use Rattle.iox2_slots.proofs.SlotRecords.{map-replicate}
 use Rattle.iox2_slots.proofs.slots.book.SlotBook.new.Goals as goal
 
 pub returns-clause-unused : goal.returns-clause-unused
-returns-clause-unused c = rw (c.in_ok-slots.ensures.items_if_clones_equal (λ y h. h)) (map-replicate (λ slot. slot.holders) _ _)
+returns-clause-unused c =
+    rw (c.in_ok-slots.ensures.items_if_clones_equal (λ y h. h)) (map-replicate (λ slot. slot.holders) _ _)
 
 pub returns-clause-aligned : goal.returns-clause-aligned
 returns-clause-aligned c = record {
