@@ -1,7 +1,8 @@
 //! Two readings are received in the order in which they were sent.
 ghost use Rattle.std.specs.Prelude.{ℕ, List, [], ◌∷◌, ◌<◌, ◌≤◌, ◌≡◌, IfOk, OnOk};
 ghost use Rattle.iox2_pubsub.specs.Handles.{buffer_size_of, publisher_id};
-ghost use Rattle.iox2_pubsub.specs.Live.{AllFrom, HasItsBuffer, IsConnected, IsLivePublisher, IsLiveSubscriber, IsSingleValued, IsUpToDate, Stays, UpToDateStay, waiting};
+ghost use Rattle.iox2_pubsub.specs.Live.{AllFrom, HasItsBuffer, IsConnected, IsLivePublisher, IsLiveSubscriber};
+ghost use Rattle.iox2_pubsub.specs.Live.{IsSingleValued, IsUpToDate, Stays, UpToDateStay, waiting};
 ghost use Rattle.calling.specs.Ports.{AreIdle};
 
 use crate::failure::Failure;
@@ -60,7 +61,9 @@ fn receive_one(domain: &mut Domain<u32, ()>, subscriber: &Subscriber) -> Result<
     requires subscriber { IsLiveSubscriber domain.old subscriber.now }
     requires up_to_date { IsUpToDate domain.old subscriber.now }
     requires some { 0 < waiting domain.old subscriber.now }
-    ensures first { IfOk result (λ it. (publisher value : ℕ) (others : List (List ℕ)) → AllFrom domain.old publisher subscriber.now ((value ∷ []) ∷ others) → (it ≡ value) × AllFrom domain.new publisher subscriber.now others) }
+    ensures first { IfOk result (λ it. (publisher value : ℕ) (others : List (List ℕ))
+        → AllFrom domain.old publisher subscriber.now ((value ∷ []) ∷ others) → (it ≡ value)
+        × AllFrom domain.new publisher subscriber.now others) }
     ensures up_to_date { UpToDateStay domain.old domain.new }
     ensures stays { Stays domain.old domain.new }
 {

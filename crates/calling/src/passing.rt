@@ -44,7 +44,9 @@ pub fn receive_next(
 ) -> Result<Option<u32>, Failure>
     requires single_valued { IsSingleValued domain.old }
     requires subscriber { IsLiveSubscriber domain.old subscriber.now }
-    ensures one_fewer { HasRoomFor domain.old subscriber.now 0 → IfOk result (λ reading. OnSome reading (suc (waiting domain.new subscriber.now) ≡ waiting domain.old subscriber.now)) }
+    ensures one_fewer { HasRoomFor domain.old subscriber.now 0
+        → IfOk result (λ reading. OnSome reading
+        (suc (waiting domain.new subscriber.now) ≡ waiting domain.old subscriber.now)) }
     ensures up_to_date { UpToDateStay domain.old domain.new }
     ensures stays { Stays domain.old domain.new }
 {

@@ -18,7 +18,8 @@ impl Model for Station {
 
     ghost view = { λ station. tt };
 
-    ghost invariant = { λ station. IsSingleValued station.domain × IsLivePublisher station.domain station.publisher × IsLiveSubscriber station.domain station.subscriber };
+    ghost invariant = { λ station. IsSingleValued station.domain × IsLivePublisher station.domain station.publisher
+        × IsLiveSubscriber station.domain station.subscriber };
 }
 
 impl Station {

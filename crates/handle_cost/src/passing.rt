@@ -1,6 +1,7 @@
 //! Messages of bytes pass by handles.
 ghost use Rattle.std.specs.Prelude.{IfOk, IfSome};
-ghost use Rattle.iox2_pubsub.specs.Live.{IsLivePublisher, IsLiveSample, IsLiveSubscriber, IsNewIn, IsWrittenLoan, Stays, StaysBut, received_sample, written_loan};
+ghost use Rattle.iox2_pubsub.specs.Live.{IsLivePublisher, IsLiveSample, IsLiveSubscriber, IsNewIn, IsWrittenLoan};
+ghost use Rattle.iox2_pubsub.specs.Live.{Stays, StaysBut, received_sample, written_loan};
 ghost use Rattle.slice_passing.specs.Slices.{PassesSlices};
 ghost use Rattle.iox2_pubsub.specs.Handles.{as_publisher, as_subscriber, as_written};
 

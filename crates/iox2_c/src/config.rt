@@ -70,7 +70,8 @@ impl Config {
     /// The settings of a domain for messages of that many bytes.
     pub fn of(config: &ServiceConfig, payload_size: usize, payload_alignment: usize) -> Config
         ensures known { result.struct_size ≡ config_size }
-        ensures settings { settings_of result ≡ record (config.now) { variant = Dynamic; units_per_element = 1; lists_cells = false; publisher_allocation_strategy = Static } }
+        ensures settings { settings_of result ≡ record (config.now)
+            { variant = Dynamic; units_per_element = 1; lists_cells = false; publisher_allocation_strategy = Static } }
         ensures size { result.payload_size ≡ payload_size }
         ensures alignment { result.payload_alignment ≡ payload_alignment }
     {

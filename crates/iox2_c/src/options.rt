@@ -5,7 +5,9 @@ ghost use Rattle.iox2_machine.specs.machine.Records.{Fixed};
 ghost use Rattle.iox2_connections.specs.Handlers.{marks_of};
 ghost use Rattle.iox2_pubsub.specs.Factories.{answer_of};
 ghost use Rattle.iox2_c.specs.Codes.{allocation_numbered, degradation_numbered, first_setting_code, handler_numbered, worst_case_too_large};
-ghost use Rattle.iox2_c.specs.Settings.{invalid_publisher_option, invalid_subscriber_option, publisher_options_size, settings_of_options, settings_of, subscriber_options_size, subscriber_settings};
+ghost use Rattle.iox2_c.specs.Settings.{invalid_publisher_option, invalid_subscriber_option, publisher_options_size};
+ghost use Rattle.iox2_c.specs.Settings.{settings_of_options, settings_of, subscriber_options_size};
+ghost use Rattle.iox2_c.specs.Settings.{subscriber_settings};
 
 use crate::config::Config;
 use crate::handlers::NoHandler;
@@ -50,7 +52,9 @@ impl PublisherOptions {
     /// What a publisher has that is made without options.
     pub fn of(config: &Config) -> PublisherOptions
         ensures known { result.struct_size ≡ publisher_options_size }
-        ensures settings { settings_of_options (settings_of config.now) result ≡ record (default_publisher_settings (settings_of config.now)) { initial_max_slice_len = config.now.payload_size } }
+        ensures settings { settings_of_options (settings_of config.now) result
+            ≡ record (default_publisher_settings (settings_of config.now))
+            { initial_max_slice_len = config.now.payload_size } }
     {
         PublisherOptions {
             struct_size: PUBLISHER_OPTIONS_SIZE,

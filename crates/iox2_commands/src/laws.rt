@@ -2,7 +2,9 @@ ghost use Rattle.iox2_commands.specs.Laws.{StepsKeepWellFormed, StepsLift};
 ghost use Rattle.iox2_commands.specs.Existence.{EveryListRuns};
 ghost use Rattle.iox2_commands.specs.Isolation.{CallsLeaveOthersViews, AlikeStatesStayAlike, SubscribersAreIsolated, ViewsStayAlike};
 ghost use Rattle.iox2_commands.specs.Refusals.{RunsWithoutRefusalsAreAmple, SubscribersAreIsolatedWithoutRefusals, ViewsStayAlikeWithoutRefusals};
-ghost use Rattle.iox2_commands.specs.RunLaws.{ReachedStatesHoldAtMostWorstCase, WorstCaseOfSlotsGrants, LoansAreGranted, SamplesNameTheirPublisher, ReceivesInOrder, ReadsGiveWhatWasSent};
+ghost use Rattle.iox2_commands.specs.RunLaws.{ReachedStatesHoldAtMostWorstCase, WorstCaseOfSlotsGrants};
+ghost use Rattle.iox2_commands.specs.RunLaws.{LoansAreGranted, SamplesNameTheirPublisher, ReceivesInOrder};
+ghost use Rattle.iox2_commands.specs.RunLaws.{ReadsGiveWhatWasSent};
 
 /// Every step from a well-formed state ends in a well-formed one with the same configuration, and no
 /// counter falls, whatever handlers answer and whether or not memory is refused.

@@ -1,6 +1,9 @@
 //! What is between one publisher and one subscriber: numbers of the publisher's slots.
 ghost use Rattle.std.specs.Prelude.{◌≡◌, ◌+◌, ◌<◌, ◌↔◌, length, Contains, IfOk, IsTrue};
-ghost use Rattle.iox2_connections.specs.Link.{load, is_shut_in, empty_link, channel_at, has_slots, has_other_slots, has_borrowed_slots, has_returned_slots, can_borrow, is_shut, with_mark, state_changed, hint_set, with_returned, without_borrowed, IsBounded};
+ghost use Rattle.iox2_connections.specs.Link.{load, is_shut_in, empty_link, channel_at, has_slots, has_other_slots};
+ghost use Rattle.iox2_connections.specs.Link.{has_borrowed_slots, has_returned_slots, can_borrow, is_shut};
+ghost use Rattle.iox2_connections.specs.Link.{with_mark, state_changed, hint_set, with_returned, without_borrowed};
+ghost use Rattle.iox2_connections.specs.Link.{IsBounded};
 ghost use Rattle.iox2_machine.specs.machine.Numbers.{IsOnce};
 
 use crate::channel_status::ChannelStatus;

@@ -10,7 +10,8 @@ ghost use Rattle.iox2_connections.specs.Recounts.{Recounts};
 ghost use Rattle.iox2_connections.specs.Homes.{IsApart, SameHomes};
 ghost use Rattle.iox2_connections.specs.Finds.{offer_at, offer_of, search, is_something, Finds, HasConnections};
 ghost use Rattle.iox2_connections.specs.declared.receiver.Found.{Found};
-ghost use Rattle.iox2_connections.specs.Takes.{HasItsSlots, KeepsOtherKeys, KeepsReturned, SameStands, BorrowsSlot, IsLastAt, ReceivesSlot, ReleasesIfLast, ReleasesSlot};
+ghost use Rattle.iox2_connections.specs.Takes.{HasItsSlots, KeepsOtherKeys, KeepsReturned, SameStands, BorrowsSlot};
+ghost use Rattle.iox2_connections.specs.Takes.{IsLastAt, ReceivesSlot, ReleasesIfLast, ReleasesSlot};
 
 use crate::connection::{Connection, Home};
 use crate::listed_key::ListedKey;
@@ -316,7 +317,9 @@ pub fn let_go(connections: &mut Slab<Connection>, book: &mut SlotBook, key: usiz
     requires in_use { IsInUse book.old slot }
     ensures releases { ReleasesSlot connections.old key slot connections.new }
     ensures book { book.new ≡ with_counters book.old (one_holder_less slot book.old.holders) }
-    ensures recounts { IsSomeAnd (get connections.old key) (λ c. Recounts c.home.publisher book.old.holders connections.old (one_holder_less slot book.old.holders) connections.new) }
+    ensures recounts { IsSomeAnd (get connections.old key)
+        (λ c. Recounts c.home.publisher book.old.holders connections.old (one_holder_less slot book.old.holders)
+        connections.new) }
     ensures left { IsSomeAnd (get connections.old key) (λ c. get connections.new key ≡ Some (without_borrowed slot c)) }
     ensures others { KeepsOtherKeys key connections.old connections.new }
 {

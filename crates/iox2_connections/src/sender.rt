@@ -318,7 +318,8 @@ fn deliver_at<R: Receiver, F: BackpressureFn>(
     requires own { HoldsItself delivery.now.publisher delivery.now.slot book.old.holders connections.old.slots }
     requires fits { holders_at book.old delivery.now.slot + 1 < 2 ^ 64 }
     requires covered { IsCovered delivery.now.publisher book.old.holders connections.old.slots }
-    ensures puts { PutsSlot (asked F.allows handler.now) config.now delivery.now handler.now (map (option_map R.details_of) receivers.now.items) place (slice_index_or keys.now place None)
+    ensures puts { PutsSlot (asked F.allows handler.now) config.now delivery.now handler.now
+        (map (option_map R.details_of) receivers.now.items) place (slice_index_or keys.now place None)
         connections.old result connections.new }
     ensures book { book.new ≡ with_counters book.old book.new.holders }
     ensures recounts { Recounts delivery.now.publisher book.old.holders connections.old book.new.holders connections.new }
@@ -369,7 +370,8 @@ pub fn deliver<R: Receiver, F: BackpressureFn>(
     requires counted { delivery.now.start.count ≤ delivery.now.start.place }
     requires fits { holders_at book.old delivery.now.slot + length keys.now < 2 ^ 64 + delivery.now.start.place }
     requires covered { IsCovered delivery.now.publisher book.old.holders connections.old.slots }
-    ensures delivers { DeliversSlot (asked F.allows handler.now) config.now delivery.now handler.now (map (option_map R.details_of) receivers.now.items) keys.now
+    ensures delivers { DeliversSlot (asked F.allows handler.now) config.now delivery.now handler.now
+        (map (option_map R.details_of) receivers.now.items) keys.now
         connections.old result connections.new }
     ensures book { book.new ≡ with_counters book.old book.new.holders }
     ensures recounts { Recounts delivery.now.publisher book.old.holders connections.old book.new.holders connections.new }

@@ -1,5 +1,6 @@
 //! The cells of an unwritten loan.
-ghost use Rattle.std.specs.Prelude.{◌≡◌, ◌<◌, ◌≤◌, ◌+◌, ◌&&◌, ◌==◌, [], ◌++◌, length, map, nat_lt, replicate, slice_get, vec_capacity, true, false, None, Some, IsSome, IfOk, is_some};
+ghost use Rattle.std.specs.Prelude.{◌≡◌, ◌<◌, ◌≤◌, ◌+◌, ◌&&◌, ◌==◌, [], ◌++◌, length, map, nat_lt, replicate};
+ghost use Rattle.std.specs.Prelude.{slice_get, vec_capacity, true, false, None, Some, IsSome, IfOk, is_some};
 ghost use Rattle.std.specs.Borrow.{sem};
 ghost use Rattle.std.specs.List.{All, list_all};
 ghost use Rattle.iox2_contents.specs.CellLists.{with_cell_items, has_list, keeps, waits};

@@ -5,7 +5,10 @@ ghost use Rattle.std.specs.List.{All};
 ghost use Rattle.iox2_contents.specs.SlotCalls.{AnswersInOrder};
 ghost use Rattle.iox2_contents.specs.SlotPayload.{lies_in_place};
 ghost use Rattle.iox2_contents.specs.SlotStates.{IsNew};
-ghost use Rattle.iox2_contents.specs.SlotContents.{SomeAt, AddsSlots, ClearsSlot, WritesValues, AssumesWritten, StartsLoan, with_changed, written_content, ended_content, lists_for, open_count, user_header_at, cells_at, values_at, first_cell_at, first_value_at};
+ghost use Rattle.iox2_contents.specs.SlotContents.{SomeAt, AddsSlots, ClearsSlot, WritesValues, AssumesWritten};
+ghost use Rattle.iox2_contents.specs.SlotContents.{StartsLoan, with_changed, written_content, ended_content};
+ghost use Rattle.iox2_contents.specs.SlotContents.{lists_for, open_count, user_header_at, cells_at, values_at};
+ghost use Rattle.iox2_contents.specs.SlotContents.{first_cell_at, first_value_at};
 
 use crate::cell_lists::CellLists;
 use crate::content::Content;

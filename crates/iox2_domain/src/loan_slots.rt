@@ -33,7 +33,8 @@ impl<T: Drop, U: Default + Drop> DomainState<T, U> {
     /// Where a publisher's loan is, and `None` if it isn't out.
     pub fn find_loan(&self, publisher: UniquePublisherId, number: u128) -> Option<MessageSlot>
         requires { IsDomain self.now }
-        ensures { MatchOption result (HoldsLoan (state_of (kept_of self.now)) publisher number → ⊥) (λ at. LiesInSlot self.now publisher number at.book at.slot) }
+        ensures { MatchOption result (HoldsLoan (state_of (kept_of self.now)) publisher number → ⊥)
+            (λ at. LiesInSlot self.now publisher number at.book at.slot) }
     {
         let Some(place) = self.find_publisher(publisher, 0) else {
             return self.find_left_loan(publisher, number);
@@ -51,7 +52,8 @@ impl<T: Drop, U: Default + Drop> DomainState<T, U> {
     #[inline(never)]
     fn find_left_loan(&self, publisher: UniquePublisherId, number: u128) -> Option<MessageSlot>
         requires { IsDomain self.now }
-        ensures { MatchOption result (HoldsLoan (state_of (kept_of self.now)) publisher number → ⊥) (λ at. LiesInSlot self.now publisher number at.book at.slot) }
+        ensures { MatchOption result (HoldsLoan (state_of (kept_of self.now)) publisher number → ⊥)
+            (λ at. LiesInSlot self.now publisher number at.book at.slot) }
     {
         for key in 0..self.books.capacity() {
             let found = self.find_loan_in(key, publisher, number);

@@ -94,7 +94,8 @@ impl<T: Drop, U: Default + Drop> DomainState<T, U> {
     /// The place of the publisher with an id, and `None` if there is none. It is looked for at the
     /// hint first.
     pub fn find_publisher(&self, id: UniquePublisherId, hint: usize) -> Option<usize>
-        ensures { MatchOption result (look_up (is_publisher id) self.now.publishers ≡ None) (λ i. (x : PublisherFields) × (slice_index_or self.now.publishers i None ≡ Some x) × (x.id ≡ id)) }
+        ensures { MatchOption result (look_up (is_publisher id) self.now.publishers ≡ None)
+            (λ i. (x : PublisherFields) × (slice_index_or self.now.publishers i None ≡ Some x) × (x.id ≡ id)) }
     {
         find_place(&self.publishers, id.value(), hint)
     }
@@ -110,7 +111,8 @@ impl<T: Drop, U: Default + Drop> DomainState<T, U> {
     /// The place of the subscriber with an id, and `None` if there is none. It is looked for at the
     /// hint first.
     pub fn find_subscriber(&self, id: UniqueSubscriberId, hint: usize) -> Option<usize>
-        ensures { MatchOption result (look_up (is_subscriber id) self.now.subscribers ≡ None) (λ i. (y : SubscriberFields) × (slice_index_or self.now.subscribers i None ≡ Some y) × (y.id ≡ id)) }
+        ensures { MatchOption result (look_up (is_subscriber id) self.now.subscribers ≡ None)
+            (λ i. (y : SubscriberFields) × (slice_index_or self.now.subscribers i None ≡ Some y) × (y.id ≡ id)) }
     {
         find_place(&self.subscribers, id.value(), hint)
     }

@@ -133,7 +133,9 @@ impl PublisherState {
         slots: usize,
     ) -> Result<Self, AllocError>
         requires { segment_fits config.now slots given.now.initial_max_slice_len ≡ true }
-        ensures enters { IfOk result (λ x. x ≡ entering_publisher id place book (growing_publisher given.now (handler_if_any handler) allocation) slots x.loan_room (buffer [] (config.now).history_size) x.key_room) }
+        ensures enters { IfOk result (λ x. x ≡ entering_publisher id place book
+            (growing_publisher given.now (handler_if_any handler) allocation) slots x.loan_room
+            (buffer [] (config.now).history_size) x.key_room) }
         ensures room { IfOk result (HasPublisherRoom config.now) }
     {
         let loans = Vec::with_capacity(alloc, given.max_loaned_samples)?;

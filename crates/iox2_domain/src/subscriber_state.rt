@@ -147,7 +147,8 @@ pub fn forget_at(
     key: usize,
 )
     requires stands { place < length subscribers.old }
-    requires only { (y : SubscriberFields) → slice_index_or subscribers.old place None ≡ Some y → (i : ℕ) → slice_index_or y.keys i None ≡ Some key → i ≡ other }
+    requires only { (y : SubscriberFields) → slice_index_or subscribers.old place None ≡ Some y → (i : ℕ)
+        → slice_index_or y.keys i None ≡ Some key → i ≡ other }
     ensures { subscribers.new ≡ changed_at (key_forgotten key) subscribers.old place }
 {
     if let Some(subscriber) = &mut subscribers[place] {
@@ -222,7 +223,9 @@ pub fn reserve_connection_at(
     count: usize,
 ) -> Result<(), AllocError>
     requires stands { place < length subscribers.old }
-    ensures same { subscribers.new ≡ changed_at (with_receiver_rooms (receiver_room subscribers.new place) (expired_room_at subscribers.new place)) subscribers.old place }
+    ensures same { subscribers.new ≡ changed_at
+        (with_receiver_rooms (receiver_room subscribers.new place) (expired_room_at subscribers.new place))
+        subscribers.old place }
     ensures grows { receiver_room subscribers.old place ≤ receiver_room subscribers.new place }
     ensures expired_grows { expired_room_at subscribers.old place ≤ expired_room_at subscribers.new place }
     ensures room { OnOk result ((y : SubscriberFields) → slice_index_or subscribers.new place None ≡ Some y → other < y.key_room) }

@@ -25,7 +25,9 @@ impl Model for Warnings {
 
     ghost Value = { WarningRing };
 
-    ghost view = { λ warnings. warning_ring (record { latest = warnings.latest.items; refused_connections = warnings.refused_connections }) warnings.latest.capacity };
+    ghost view = { λ warnings. warning_ring (record
+        { latest = warnings.latest.items; refused_connections = warnings.refused_connections })
+        warnings.latest.capacity };
 }
 
 impl Warnings {

@@ -85,7 +85,14 @@ pub fn settings() -> ServiceConfig
 
 /// The same, with a buffer of one message. The subscriber may borrow one message.
 pub fn smallest() -> ServiceConfig
-    ensures { result ≡ record (default_config 7) { node_id = 3; max_publishers = 1; max_subscribers = 1; subscriber_max_buffer_size = 1; subscriber_max_borrowed_samples = 1; enable_safe_overflow = false } }
+    ensures { result ≡ record (default_config 7) {
+      node_id = 3;
+      max_publishers = 1;
+      max_subscribers = 1;
+      subscriber_max_buffer_size = 1;
+      subscriber_max_borrowed_samples = 1;
+      enable_safe_overflow = false;
+    } }
 {
     ServiceConfig {
         subscriber_max_buffer_size: 1,

@@ -32,7 +32,8 @@ pub fn worst_case_slots(config: &ServiceConfig, loans: usize) -> Option<usize>
 
 // The same if all subscribers that there may be have `channels` channels together.
 fn slots_for_channels(channels: usize, config: &ServiceConfig, loans: usize) -> Option<usize>
-    ensures { let slots = channels * (buffer_limit config.now + config.now.subscriber_max_borrowed_samples) + config.now.history_size + loans in SomeIff result (IsTrue (fits slots)) slots }
+    ensures { let slots = channels * (buffer_limit config.now + config.now.subscriber_max_borrowed_samples) +
+        config.now.history_size + loans in SomeIff result (IsTrue (fits slots)) slots }
 {
     let waiting = channels.checked_mul(config.subscriber_max_buffer_size.max(1))?;
     let borrowed = channels.checked_mul(config.subscriber_max_borrowed_samples)?;

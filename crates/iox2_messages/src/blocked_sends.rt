@@ -93,7 +93,9 @@ pub(crate) fn go_on<T: Drop, U: Default + Drop, F: BackpressureFn, G: Degradatio
     from: Resumption,
 ) -> DeliveryOutcome
     requires { CanTakeUp state.old place from.start }
-    ensures { (may : CanTakeUp state.old place from.start) → GoesOn (answers_of F.allows G.allows (boxes.now).boxes) state.old place may.publisher may.delivery from.start from.elapsed result state.new }
+    ensures { (may : CanTakeUp state.old place from.start)
+        → GoesOn (answers_of F.allows G.allows (boxes.now).boxes) state.old place may.publisher may.delivery
+        from.start from.elapsed result state.new }
 {
     let Some(publisher) = &mut state.publishers[place] else {
         unreachable!();

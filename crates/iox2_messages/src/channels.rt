@@ -2,7 +2,9 @@
 ghost use Rattle.std.specs.Prelude.{◌≡◌, None, Some, map, slice_index_or};
 ghost use Rattle.std.specs.List.{list_all};
 ghost use Rattle.iox2_machine.specs.machine.Channel.{is_in_state as is_channel_in};
-ghost use Rattle.iox2_machine.specs.machine.ChannelCalls.{connection_place, has_channel_state, has_disconnect_hint, place_from, receiver_at, senders_of, some_channel_has_state};
+ghost use Rattle.iox2_machine.specs.machine.ChannelCalls.{connection_place, has_channel_state, has_disconnect_hint};
+ghost use Rattle.iox2_machine.specs.machine.ChannelCalls.{place_from, receiver_at, senders_of};
+ghost use Rattle.iox2_machine.specs.machine.ChannelCalls.{some_channel_has_state};
 ghost use Rattle.iox2_machine.specs.machine.Places.{is_port};
 ghost use Rattle.iox2_connections.specs.Mailboxes.{sender_ends, subscriber_of_key};
 ghost use Rattle.iox2_domain.specs.Fields.{kept_of};
@@ -124,7 +126,8 @@ pub fn all_received_in<T: Drop, U: Default + Drop>(
     requires agrees { IsDomain state.now }
     requires stands { (y : SubscriberFields) × (slice_index_or state.now.subscribers place None ≡ Some y) }
     ensures { (y : SubscriberFields) → slice_index_or state.now.subscribers place None ≡ Some y
-        → result ≡ list_all (λ p. is_channel_in channel_state ((state_of (kept_of state.now)).channels p y.id channel)) (senders_of (state_of (kept_of state.now)) y.id) }
+        → result ≡ list_all (λ p. is_channel_in channel_state
+        ((state_of (kept_of state.now)).channels p y.id channel)) (senders_of (state_of (kept_of state.now)) y.id) }
 {
     let Some(subscriber) = &state.subscribers[place] else {
         unreachable!()

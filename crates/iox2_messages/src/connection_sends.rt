@@ -59,7 +59,8 @@ fn begin<T: Drop, U: Default + Drop>(
     channel: usize,
     connection: usize,
 )
-    requires { (x : PublisherFields) × (b : Book) × (slice_index_or state.old.publishers place None ≡ Some x) × (get state.old.books x.book ≡ Some b) × (slot < length b.holders) }
+    requires { (x : PublisherFields) × (b : Book) × (slice_index_or state.old.publishers place None ≡ Some x)
+        × (get state.old.books x.book ≡ Some b) × (slot < length b.holders) }
     ensures { (x : PublisherFields) (b : Book) → slice_index_or state.old.publishers place None ≡ Some x → get state.old.books x.book ≡ Some b
         → state.new ≡ with_begun state.old place x (begun_delivery slot channel connection) b }
 {

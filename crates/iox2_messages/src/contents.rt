@@ -7,7 +7,8 @@ ghost use Rattle.iox2_contents.specs.SlotContents.{cells_at, values_at, first_ce
 ghost use Rattle.iox2_slots.specs.declared.slots.mark.SlotMark.TheVariants.{Written};
 ghost use Rattle.iox2_domain.specs.Fields.{contents_at};
 ghost use Rattle.iox2_domain.specs.LoanCalls.{HasContents, HasContentIn, with_slot_mark};
-ghost use Rattle.iox2_domain.specs.LoanLends.{LendsSome, LendsContents, StateLendsCell, StateLendsCells, StateLendsValue, StateLendsValues, StateLendsUserHeader};
+ghost use Rattle.iox2_domain.specs.LoanLends.{LendsSome, LendsContents, StateLendsCell, StateLendsCells};
+ghost use Rattle.iox2_domain.specs.LoanLends.{StateLendsValue, StateLendsValues, StateLendsUserHeader};
 
 use iox2_contents::Contents;
 use iox2_domain::{DomainState, MessageSlot};

@@ -9,7 +9,8 @@ ghost use Rattle.iox2_domain.specs.Boxes.{answers_of};
 ghost use Rattle.iox2_domain.specs.Handlers.{AsksFor};
 ghost use Rattle.iox2_domain.specs.Ports.{PublisherFields};
 ghost use Rattle.iox2_domain.specs.Invariant.{IsDomain};
-ghost use Rattle.iox2_domain.specs.Deliveries.{CanSend, SendsSlot, sender_after, book_after, with_history_holder, pushed, leaving, result_of_delivery, with_left, with_sent};
+ghost use Rattle.iox2_domain.specs.Deliveries.{CanSend, SendsSlot, sender_after, book_after, with_history_holder};
+ghost use Rattle.iox2_domain.specs.Deliveries.{pushed, leaving, result_of_delivery, with_left, with_sent};
 ghost use Rattle.iox2_connections.specs.declared.sender.DeliveryOutcome.{DeliveryOutcome};
 ghost use Rattle.iox2_messages.specs.SendEnds.{IsKept, end_result};
 
@@ -130,7 +131,8 @@ fn send_slot<T: Drop, U: Default + Drop, X: BackpressureFn>(
     requires can { (x : PublisherFields) × (slice_index_or state.old.publishers place None ≡ Some x) × CanSend state.old x slot }
     requires handler { (x : PublisherFields) → slice_index_or state.old.publishers place None ≡ Some x → marks_of handler.now ≡ x.backpressure_handler }
     ensures sends { (outcome : DeliveryOutcome) × (end_result result ≡ result_of_delivery outcome)
-        × ((x : PublisherFields) → slice_index_or state.old.publishers place None ≡ Some x → SendsSlot (asked X.allows handler.now) state.old place x slot outcome state.new) }
+        × ((x : PublisherFields) → slice_index_or state.old.publishers place None ≡ Some x
+        → SendsSlot (asked X.allows handler.now) state.old place x slot outcome state.new) }
     ensures kept { IsKept result }
 {
     let Some(publisher) = &mut state.publishers[place] else {
@@ -170,7 +172,8 @@ pub(crate) fn send_unasked<T: Drop, U: Default + Drop>(
     requires can { (x : PublisherFields) × (slice_index_or state.old.publishers place None ≡ Some x) × CanSend state.old x slot }
     requires unasked { (x : PublisherFields) → slice_index_or state.old.publishers place None ≡ Some x → None ≡ x.backpressure_handler }
     ensures sends { (outcome : DeliveryOutcome) × (end_result result ≡ result_of_delivery outcome)
-        × ((x : PublisherFields) → slice_index_or state.old.publishers place None ≡ Some x → SendsSlot fixed_handlers state.old place x slot outcome state.new) }
+        × ((x : PublisherFields) → slice_index_or state.old.publishers place None ≡ Some x
+        → SendsSlot fixed_handlers state.old place x slot outcome state.new) }
     ensures kept { IsKept result }
 {
     send_slot(state, place, slot, &None::<BackpressureHandler>)
@@ -188,7 +191,8 @@ pub(crate) fn send_ready<T: Drop, U: Default + Drop, F: BackpressureFn, G: Degra
     requires agrees { IsDomain state.old }
     requires can { (x : PublisherFields) × (slice_index_or state.old.publishers place None ≡ Some x) × CanSend state.old x slot }
     ensures sends { (outcome : DeliveryOutcome) × (end_result result ≡ result_of_delivery outcome)
-        × ((x : PublisherFields) → slice_index_or state.old.publishers place None ≡ Some x → SendsSlot (answers_of F.allows G.allows (boxes.now).boxes) state.old place x slot outcome state.new) }
+        × ((x : PublisherFields) → slice_index_or state.old.publishers place None ≡ Some x
+        → SendsSlot (answers_of F.allows G.allows (boxes.now).boxes) state.old place x slot outcome state.new) }
     ensures kept { IsKept result }
 {
     let handler = handler_at(state, boxes, place);

@@ -39,10 +39,14 @@ fn discard_loan_at<T: Drop, U: Default + Drop>(
     place: usize,
     slot: usize,
 )
-    requires stands { (x : PublisherFields) × (b : Book) × (slice_index_or state.old.publishers place None ≡ Some x) × (get state.old.books x.book ≡ Some b) × IsInUse b slot }
+    requires stands { (x : PublisherFields) × (b : Book) × (slice_index_or state.old.publishers place None ≡ Some x)
+        × (get state.old.books x.book ≡ Some b) × IsInUse b slot }
     requires once { (x : PublisherFields) → slice_index_or state.old.publishers place None ≡ Some x → times slot x.loans ≤ 1 }
-    requires contents { (x : PublisherFields) → slice_index_or state.old.publishers place None ≡ Some x → (cs : List (ContentState T U)) × (slice_index_or state.old.contents x.book None ≡ Some cs) × (slot < length cs) }
-    ensures { (x : PublisherFields) (b : Book) → slice_index_or state.old.publishers place None ≡ Some x → get state.old.books x.book ≡ Some b → state.new ≡ with_loan_discarded state.old place x slot b }
+    requires contents { (x : PublisherFields) → slice_index_or state.old.publishers place None ≡ Some x
+        → (cs : List (ContentState T U)) × (slice_index_or state.old.contents x.book None ≡ Some cs)
+        × (slot < length cs) }
+    ensures { (x : PublisherFields) (b : Book) → slice_index_or state.old.publishers place None ≡ Some x
+        → get state.old.books x.book ≡ Some b → state.new ≡ with_loan_discarded state.old place x slot b }
 {
     let Some(publisher) = &mut state.publishers[place] else {
         unreachable!();

@@ -36,7 +36,8 @@ pub fn fill_from_fn<T: Drop, U: Default + Drop, F: FnMut(usize) -> T + Drop>(
     requires live { HoldsUnwritten (state_of (kept_of state.old)) loan.now.publisher loan.now.number }
     requires lies { LiesInSlot state.old loan.now.publisher loan.now.number loan.now.book loan.now.slot }
     requires callable { F.IsAlwaysCallable f }
-    ensures { (answers : List T) × AnswersInOrder F.step f answers × WritesLoan state.old state.new loan.now.number answers × (IsSome result ↔ 0 < length answers) }
+    ensures { (answers : List T) × AnswersInOrder F.step f answers
+        × WritesLoan state.old state.new loan.now.number answers × (IsSome result ↔ 0 < length answers) }
 {
     mark_written(state, loan.book, loan.slot);
     let contents = contents_mut(state, loan.book);

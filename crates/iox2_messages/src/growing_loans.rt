@@ -67,7 +67,8 @@ fn find_slot<T: Drop, U: Default + Drop>(
 // Whether as many loans of the publisher at a place are out as it may have.
 fn has_all_loans<T, U>(state: &DomainState<T, U>, place: usize) -> bool
     requires { (x : PublisherFields) × (slice_index_or state.now.publishers place None ≡ Some x) }
-    ensures { (x : PublisherFields) → slice_index_or state.now.publishers place None ≡ Some x → MatchBool result (x.max_loaned_samples ≤ length x.loans) (length x.loans < x.max_loaned_samples) }
+    ensures { (x : PublisherFields) → slice_index_or state.now.publishers place None ≡ Some x
+        → MatchBool result (x.max_loaned_samples ≤ length x.loans) (length x.loans < x.max_loaned_samples) }
 {
     let Some(publisher) = &state.publishers[place] else {
         unreachable!();
@@ -79,7 +80,8 @@ fn has_all_loans<T, U>(state: &DomainState<T, U>, place: usize) -> bool
 fn has_slot<T: Drop, U: Default + Drop>(state: &DomainState<T, U>, place: usize, len: usize) -> bool
     requires agrees { IsDomain state.now }
     requires stands { (x : PublisherFields) × (slice_index_or state.now.publishers place None ≡ Some x) }
-    ensures { (x : PublisherFields) → slice_index_or state.now.publishers place None ≡ Some x → MatchBool result (HasFreeSlot state.now x len) (HasNoSlot state.now x len) }
+    ensures { (x : PublisherFields) → slice_index_or state.now.publishers place None ≡ Some x
+        → MatchBool result (HasFreeSlot state.now x len) (HasNoSlot state.now x len) }
 {
     let Some(publisher) = &state.publishers[place] else {
         unreachable!();

@@ -56,7 +56,8 @@ pub fn loan<T: Drop, U: Default + Drop>(
     requires stands { (x : PublisherFields) × (slice_index_or state.old.publishers place None ≡ Some x) }
     requires unchecked { checks_length ≡ false → (state.old.config).variant ≡ FixedSize }
     requires single { (state.old.config).variant ≡ FixedSize → len ≡ 1 }
-    ensures reaches { IsSomeAnd (slice_index_or state.old.publishers place None) (λ x. LoanReaches U.is_default checks_length len state.old x result state.new) }
+    ensures reaches { IsSomeAnd (slice_index_or state.old.publishers place None)
+        (λ x. LoanReaches U.is_default checks_length len state.old x result state.new) }
     ensures named { IfOk result (λ loan. IsSomeAnd (slice_index_or state.old.publishers place None) (λ x. IsNamed state.old x loan)) }
     ensures lies { IfOk result (λ loan. LiesInSlot state.new loan.publisher loan.number loan.book loan.slot) }
     ensures placed { IfOk result (λ loan. loan.place ≡ place) }

@@ -19,7 +19,8 @@ pub fn has_samples_at<T: Drop, U: Default + Drop, F: BackpressureFn, G: Degradat
 ) -> Result<bool, ConnectionFailure>
     requires agrees { IsDomain state.old }
     requires stands { (y : SubscriberFields) × (slice_index_or state.old.subscribers place None ≡ Some y) }
-    ensures { (y : SubscriberFields) → slice_index_or state.old.subscribers place None ≡ Some y → AnswersAs (answers_of F.allows G.allows (boxes.now).boxes) state.old y.id result state.new }
+    ensures { (y : SubscriberFields) → slice_index_or state.old.subscribers place None ≡ Some y
+        → AnswersAs (answers_of F.allows G.allows (boxes.now).boxes) state.old y.id result state.new }
 {
     match update_subscriber(state, boxes, place) {
         Some(failure) => Err(failure),

@@ -107,7 +107,8 @@ pub fn receive_at<T: Drop, U: Default + Drop, F: BackpressureFn, G: DegradationF
 ) -> Result<Option<Receipt>, ReceiveError>
     requires agrees { IsDomain state.old }
     requires stands { (y : SubscriberFields) × (slice_index_or state.old.subscribers place None ≡ Some y) }
-    ensures { (y : SubscriberFields) → slice_index_or state.old.subscribers place None ≡ Some y → ReceivesAs (answers_of F.allows G.allows (boxes.now).boxes) state.old y.id result state.new }
+    ensures { (y : SubscriberFields) → slice_index_or state.old.subscribers place None ≡ Some y
+        → ReceivesAs (answers_of F.allows G.allows (boxes.now).boxes) state.old y.id result state.new }
 {
     if is_due(state, place) {
         if let Some(failure) = update_subscriber(state, boxes, place) {
@@ -126,7 +127,9 @@ fn release_borrowed_slot<T: Drop, U: Default + Drop>(
 )
     requires agrees { IsDomain state.old }
     requires borrowed { IsSomeAnd (get state.old.connections at.connection) (λ c. (c.home ≡ home) × Contains c.borrowed at.slot) }
-    ensures midway { IsMidway state.old state.new (subscriber_pruned (unborrowed (state_of (kept_of state.old)) home.publisher home.subscriber (number_in_slot state.old.books home.publisher at.slot)) home.subscriber) home.book }
+    ensures midway { IsMidway state.old state.new
+        (subscriber_pruned (unborrowed (state_of (kept_of state.old)) home.publisher home.subscriber
+        (number_in_slot state.old.books home.publisher at.slot)) home.subscriber) home.book }
     ensures stands { (y : SubscriberFields) × (slice_index_or state.new.subscribers home.subscriber_place None ≡ Some y) × (y.id ≡ home.subscriber) }
 {
     if stands_at(&state.publishers, home.publisher_place, home.publisher) {

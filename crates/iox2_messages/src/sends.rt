@@ -62,8 +62,12 @@ fn catch_up_and_find<T: Drop, U: Default + Drop, F: BackpressureFn, G: Degradati
     requires unblocked { is_blocked (state_of (kept_of state.old)) publisher ≡ false }
     ensures { MatchResult result
         (λ found. MatchOption found (IsLeftLoan state.old state.new publisher)
-        (λ ready. BehindClearing state.old (λ middle. IsReadyToSend (answers_of F.allows G.allows (boxes.now).boxes) middle state.new publisher number ready.place ready.slot)))
-        (λ failure. (place : ℕ) × BehindClearing state.old (λ middle. IsNotUpdated (answers_of F.allows G.allows (boxes.now).boxes) middle state.new publisher place failure)) }
+        (λ ready. BehindClearing state.old
+        (λ middle. IsReadyToSend (answers_of F.allows G.allows (boxes.now).boxes) middle state.new publisher
+        number ready.place ready.slot)))
+        (λ failure. (place : ℕ) × BehindClearing state.old
+        (λ middle. IsNotUpdated (answers_of F.allows G.allows (boxes.now).boxes) middle state.new publisher place
+        failure)) }
 {
     let Some(place) = state.find_publisher(publisher, 0) else {
         return Ok(None);

@@ -54,7 +54,8 @@ fn update_first<T: Drop, U: Default + Drop, F: BackpressureFn, G: DegradationFn>
 )
     requires agrees { IsDomain state.old }
     requires stands { (x : PublisherFields) × (slice_index_or state.old.publishers place None ≡ Some x) × (x.id ≡ publisher) × (x.blocked ≡ None) }
-    ensures { (x : PublisherFields) → slice_index_or state.old.publishers place None ≡ Some x → PublisherFirstUpdates (answers_of F.allows G.allows (boxes.now).boxes) state.old place x state.new }
+    ensures { (x : PublisherFields) → slice_index_or state.old.publishers place None ≡ Some x
+        → PublisherFirstUpdates (answers_of F.allows G.allows (boxes.now).boxes) state.old place x state.new }
 {
     let failure = update_publisher(state, boxes, place);
     warn_of_failure(&mut state.warnings, publisher, failure);
@@ -91,7 +92,8 @@ fn admit_publisher<T: Drop, U: Default + Drop>(
     requires has_place { place_for_publisher state.old ≡ Ok place }
     requires slots { slots ≡ slots_for (state.old).config (settings_with given.now None segments) }
     requires size { segment_fits (state.old).config slots given.now.initial_max_slice_len ≡ true }
-    ensures stands { OnOk result ((x : PublisherFields) × (slice_index_or state.new.publishers place None ≡ Some x) × (x.id ≡ state.old.next_port) × (x.blocked ≡ None)) }
+    ensures stands { OnOk result ((x : PublisherFields) × (slice_index_or state.new.publishers place None ≡ Some x)
+        × (x.id ≡ state.old.next_port) × (x.blocked ≡ None)) }
     ensures id { IfOk result (λ id. id ≡ state.old.next_port) }
     ensures step { MatchResult result
         (λ _. Reaches state.old state.new (with_new_publisher (state_of (kept_of state.old)) (settings_with given.now (handler_if_any handler) segments) place))
@@ -157,8 +159,11 @@ pub fn create_publisher<T: Drop, U: Default + Drop, F: BackpressureFn, G: Degrad
     ensures degrades { IfOk result (λ port. degradation_box_of port.id (boxes.new).boxes ≡ degradation) }
     ensures others { (port : ℕ) → port ≢ state.old.next_port → boxes_of port (boxes.new).boxes ≡ boxes_of port (boxes.old).boxes }
     ensures step { MatchResult result
-        (λ _. (s' : State T U) × CreatePublisher (answers_of F.allows G.allows (boxes.new).boxes) (state_of (kept_of state.old)) (settings_with given.now (marks_of handler) segments) s' None × Reaches state.old state.new s')
-        (λ e. CreatePublisher (answers_of F.allows G.allows (boxes.new).boxes) (state_of (kept_of state.old)) (settings_with given.now (marks_of handler) segments) (state_of (kept_of state.old)) (Some e)
+        (λ _. (s' : State T U) × CreatePublisher (answers_of F.allows G.allows (boxes.new).boxes)
+        (state_of (kept_of state.old)) (settings_with given.now (marks_of handler) segments) s' None
+        × Reaches state.old state.new s')
+        (λ e. CreatePublisher (answers_of F.allows G.allows (boxes.new).boxes) (state_of (kept_of state.old))
+        (settings_with given.now (marks_of handler) segments) (state_of (kept_of state.old)) (Some e)
         × Reaches state.old state.new (state_of (kept_of state.old))) }
 {
     let place = place_for_publisher(state)?;

@@ -34,7 +34,8 @@ pub(crate) fn first_segment(
     given: &PublisherOptions,
     segments: SegmentOptions,
 ) -> Option<usize>
-    ensures { SomeIff result (IsTrue (first_segment_fits config.now (settings_with given.now None segments))) (slots_for config.now (settings_with given.now None segments)) }
+    ensures { SomeIff result (IsTrue (first_segment_fits config.now (settings_with given.now None segments)))
+        (slots_for config.now (settings_with given.now None segments)) }
 {
     let worst = worst_case_slots(config, given.max_loaned_samples)?;
     let slots = match segments.asked_slots {

@@ -33,7 +33,9 @@ fn warn_of_expired_buffer(
     subscriber: UniqueSubscriberId,
 )
     requires { warnings.old.capacity ≡ warning_limit }
-    ensures { warnings.new ≡ warning_ring (cond (nat_lt (config.now).subscriber_expired_connection_buffer (config.now).subscriber_max_borrowed_samples) (warned warnings.old.items (ExpiredBufferRaised subscriber)) warnings.old.items) warning_limit }
+    ensures { warnings.new ≡ warning_ring
+        (cond (nat_lt (config.now).subscriber_expired_connection_buffer (config.now).subscriber_max_borrowed_samples)
+        (warned warnings.old.items (ExpiredBufferRaised subscriber)) warnings.old.items) warning_limit }
 {
     if config.subscriber_expired_connection_buffer < config.subscriber_max_borrowed_samples {
         warnings.warn(Warning::ExpiredBufferRaised { subscriber });
@@ -66,7 +68,8 @@ fn update_first<T: Drop, U: Default + Drop, F: BackpressureFn, G: DegradationFn>
 )
     requires agrees { IsDomain state.old }
     requires stands { (y : SubscriberFields) × (slice_index_or state.old.subscribers place None ≡ Some y) × (y.id ≡ subscriber) }
-    ensures { (y : SubscriberFields) → slice_index_or state.old.subscribers place None ≡ Some y → SubscriberFirstUpdates (answers_of F.allows G.allows (boxes.now).boxes) state.old place y state.new }
+    ensures { (y : SubscriberFields) → slice_index_or state.old.subscribers place None ≡ Some y
+        → SubscriberFirstUpdates (answers_of F.allows G.allows (boxes.now).boxes) state.old place y state.new }
 {
     let failure = update_subscriber(state, boxes, place);
     warn_of_failure(&mut state.warnings, subscriber, failure);
@@ -104,7 +107,9 @@ fn admit_subscriber<T: Drop, U: Default + Drop>(
     requires has_place { place_for_subscriber state.old (asked_for given.now) ≡ Ok place }
     ensures id { IfOk result (λ id. id ≡ state.old.next_port) }
     ensures step { MatchResult result
-        (λ _. Reaches state.old state.new (with_new_subscriber (state_of (kept_of state.old)) (asked_for given.now) place) × (y : SubscriberFields) × (slice_index_or state.new.subscribers place None ≡ Some y) × (y.id ≡ state.old.next_port))
+        (λ _. Reaches state.old state.new
+        (with_new_subscriber (state_of (kept_of state.old)) (asked_for given.now) place) × (y : SubscriberFields)
+        × (slice_index_or state.new.subscribers place None ≡ Some y) × (y.id ≡ state.old.next_port))
         (λ e. (state.new ≡ state.old) × (e ≡ FailedToDeployThreadsafetyPolicy)) }
 {
     let id = UniqueSubscriberId::new(state.next_port);
@@ -146,8 +151,10 @@ pub fn create_subscriber<T: Drop, U: Default + Drop, F: BackpressureFn, G: Degra
     ensures degrades { IfOk result (λ port. degradation_box_of port.id (boxes.new).boxes ≡ degradation) }
     ensures others { (port : ℕ) → port ≢ state.old.next_port → boxes_of port (boxes.new).boxes ≡ boxes_of port (boxes.old).boxes }
     ensures step { MatchResult result
-        (λ _. (s' : State T U) × CreateSubscriber (answers_of F.allows G.allows (boxes.new).boxes) (state_of (kept_of state.old)) (asked_for given.now) s' None × Reaches state.old state.new s')
-        (λ e. CreateSubscriber (answers_of F.allows G.allows (boxes.new).boxes) (state_of (kept_of state.old)) (asked_for given.now) (state_of (kept_of state.old)) (Some e) × (state.new ≡ state.old)) }
+        (λ _. (s' : State T U) × CreateSubscriber (answers_of F.allows G.allows (boxes.new).boxes)
+        (state_of (kept_of state.old)) (asked_for given.now) s' None × Reaches state.old state.new s')
+        (λ e. CreateSubscriber (answers_of F.allows G.allows (boxes.new).boxes) (state_of (kept_of state.old))
+        (asked_for given.now) (state_of (kept_of state.old)) (Some e) × (state.new ≡ state.old)) }
 {
     let place = place_for_subscriber(state, given)?;
     let its = PortBoxes {

@@ -67,7 +67,8 @@ impl ActiveRequest {
         service: &RequestResponse<Q, P, F, G>,
     ) -> bool
         requires server { IsLiveServer service.now server.now }
-        ensures { (m : Messages P Tag) (s : State P Tag) → Shows service.now.responses m s → result ≡ has_channel_state s (publisher_id server.now.responses) 0 self.now.place self.now.number }
+        ensures { (m : Messages P Tag) (s : State P Tag) → Shows service.now.responses m s
+            → result ≡ has_channel_state s (publisher_id server.now.responses) 0 self.now.place self.now.number }
     {
         server
             .responses
@@ -81,7 +82,8 @@ impl ActiveRequest {
         service: &RequestResponse<Q, P, F, G>,
     ) -> bool
         requires server { IsLiveServer service.now server.now }
-        ensures { (m : Messages P Tag) (s : State P Tag) → Shows service.now.responses m s → result ≡ has_disconnect_hint s (publisher_id server.now.responses) 0 self.now.place self.now.number }
+        ensures { (m : Messages P Tag) (s : State P Tag) → Shows service.now.responses m s
+            → result ≡ has_disconnect_hint s (publisher_id server.now.responses) 0 self.now.place self.now.number }
     {
         server
             .responses
@@ -98,7 +100,9 @@ impl ActiveRequest {
     ) -> Result<bool, SendError>
         requires service { IsService service.old }
         requires server { IsLiveServer service.old server.now }
-        ensures let_go { (m : Messages P Tag) (s : State P Tag) → Shows service.old.responses m s → has_channel_state s (publisher_id server.now.responses) 0 self.now.place self.now.number ≡ false → result ≡ Ok false }
+        ensures let_go { (m : Messages P Tag) (s : State P Tag) → Shows service.old.responses m s
+            → has_channel_state s (publisher_id server.now.responses) 0 self.now.place self.now.number ≡ false
+            → result ≡ Ok false }
         ensures tagged { result ≡ Ok true → SendsOne (record { number = self.now.number }) value service.old.responses service.new.responses }
         ensures stays { StaysService service.old service.new }
     {
@@ -122,7 +126,9 @@ impl ActiveRequest {
     )
         requires live { IsLiveActive service.old self }
         requires server { IsLiveServer service.old server.now }
-        ensures finished { (m : Messages P Tag) (s : State P Tag) → Shows service.old.responses m s → Shows service.new.responses m (sent_closed s (publisher_id server.now.responses) 0 self.place self.number) }
+        ensures finished { (m : Messages P Tag) (s : State P Tag) → Shows service.old.responses m s
+            → Shows service.new.responses m
+            (sent_closed s (publisher_id server.now.responses) 0 self.place self.number) }
         ensures spent { IsLiveActive service.new self → ⊥ }
         ensures stays { StaysButActive service.old service.new self }
     {

@@ -2,7 +2,9 @@
 ghost use Rattle.std.specs.Prelude.{◌≡◌, ◌≤◌, ◌↔◌, [], Err, ◌+◌, IfErr, IfOk, length, slice_set, vec_capacity};
 ghost use Rattle.iox2_pubsub.specs.Handles.{publisher_id, subscriber_id};
 ghost use Rattle.iox2_pubsub.specs.Live.{IsLivePublisher, IsLiveSubscriber, IsNewIn, No_item, publisher_port, subscriber_ports};
-ghost use Rattle.iox2_request_response.specs.Handles.{AreSeparateRequests, HasIdleOf, HasNewNumber, HasPortsOf, IsLiveClient, IsLivePending, IsNewClient, IsPendingOf, IsRequestNumber, StaysButClient};
+ghost use Rattle.iox2_request_response.specs.Handles.{AreSeparateRequests, HasIdleOf, HasNewNumber, HasPortsOf};
+ghost use Rattle.iox2_request_response.specs.Handles.{IsLiveClient, IsLivePending, IsNewClient, IsPendingOf};
+ghost use Rattle.iox2_request_response.specs.Handles.{IsRequestNumber, StaysButClient};
 ghost use Rattle.iox2_request_response.specs.Ports.{HasLostPublisher, HasNoNewPublisher, HasNoNewSubscriber, IsClosedClient};
 ghost use Rattle.iox2_request_response.specs.Sent.{SendsOne};
 ghost use Rattle.iox2_request_response.specs.Service.{IsService, StaysBoth, StaysService};
@@ -60,7 +62,8 @@ impl<Q: Drop, P: Drop, F: BackpressureFn, G: DegradationFn> RequestResponse<Q, P
         ensures requests { IfOk result (λ it. it.requests ≡ client.requests) }
         ensures places { IfOk result (λ it. length it.slots.items ≡ self.old.max_active_requests) }
         ensures are_new { IfOk result (λ it. IsNewIn self.old.responses (subscriber_ports (slot_ids it.slots.items))) }
-        ensures unmade { IfErr result (λ _. HasLostPublisher (publisher_id client.requests) self.old.requests self.new.requests × HasNoNewSubscriber self.old.responses self.new.responses) }
+        ensures unmade { IfErr result (λ _. HasLostPublisher (publisher_id client.requests) self.old.requests
+            self.new.requests × HasNoNewSubscriber self.old.responses self.new.responses) }
         ensures stays { StaysBoth (publisher_port client.requests) No_item self.old self.new }
     {
         // Their contract says that a domain always shows some state.
@@ -101,7 +104,9 @@ impl Client {
         ensures its { IfOk result (IsPendingOf self.new) }
         ensures others { (other : Pending) → IsPendingOf self.old other → IsPendingOf self.new other × IfOk result (AreSeparateRequests other) }
         ensures number { IfOk result (HasNewNumber service.old service.new) }
-        ensures asked { IfOk result (λ pending. SendsOne (record { slot = subscriber_id pending.slot; number = pending.number }) value service.old.requests service.new.requests) }
+        ensures asked { IfOk result (λ pending. SendsOne
+            (record { slot = subscriber_id pending.slot; number = pending.number }) value service.old.requests
+            service.new.requests) }
         ensures ports { HasPortsOf self.old self.new }
         ensures idle { HasIdleOf self.old self.new }
         ensures was_idle { IfOk result (λ pending. HasIdle self.old.slots.items pending.index pending.slot) }
@@ -141,7 +146,8 @@ impl Client {
     )
         requires client { IsLiveClient service.old self }
         ensures spent { IsClosedClient service.new self }
-        ensures left { HasLostPublisher (publisher_id self.requests) service.old.requests service.new.requests × HasNoNewSubscriber service.old.responses service.new.responses }
+        ensures left { HasLostPublisher (publisher_id self.requests) service.old.requests service.new.requests
+            × HasNoNewSubscriber service.old.responses service.new.responses }
         ensures stays { StaysButClient service.old service.new self }
     {
         let Client { requests, slots } = self;

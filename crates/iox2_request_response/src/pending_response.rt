@@ -7,7 +7,9 @@ ghost use Rattle.iox2_machine.specs.machine.State.{State, Messages};
 ghost use Rattle.iox2_domain.specs.Shows.{Shows};
 ghost use Rattle.iox2_pubsub.specs.Handles.{subscriber_id};
 ghost use Rattle.iox2_pubsub.specs.Live.{IsLiveSubscriber, IsSubscriberKey, SampleHasUserHeader, sample_key, subscriber_key, waiting};
-ghost use Rattle.iox2_request_response.specs.Handles.{AreSeparateRequests, HasIdleOf, HasPortsOf, IsLiveClient, IsLivePending, IsLiveResponse, IsNewResponse, IsPendingOf, IsRequestNumber, StaysButPending};
+ghost use Rattle.iox2_request_response.specs.Handles.{AreSeparateRequests, HasIdleOf, HasPortsOf, IsLiveClient};
+ghost use Rattle.iox2_request_response.specs.Handles.{IsLivePending, IsLiveResponse, IsNewResponse, IsPendingOf};
+ghost use Rattle.iox2_request_response.specs.Handles.{IsRequestNumber, StaysButPending};
 ghost use Rattle.iox2_request_response.specs.Service.{StaysService};
 ghost use Rattle.iox2_request_response.specs.Slots.{HasIdle};
 ghost use Rattle.iox2_request_response.specs.declared.client.Client.{Client as ItsClient};
@@ -45,7 +47,8 @@ impl PendingResponse {
         service: &RequestResponse<Q, P, F, G>,
     ) -> bool
         requires live { IsLivePending service.now self.now }
-        ensures { (m : Messages P Tag) (s : State P Tag) → Shows service.now.responses m s → result ≡ some_channel_has_state s (subscriber_id self.now.slot) 0 self.now.number }
+        ensures { (m : Messages P Tag) (s : State P Tag) → Shows service.now.responses m s
+            → result ≡ some_channel_has_state s (subscriber_id self.now.slot) 0 self.now.number }
     {
         self.slot
             .at_least_one_channel_has_state(&service.responses, 0, self.number)
@@ -69,7 +72,8 @@ impl PendingResponse {
         service: &mut RequestResponse<Q, P, F, G>,
     )
         requires live { IsLivePending service.old self.now }
-        ensures hinted { (m : Messages P Tag) (s : State P Tag) → Shows service.old.responses m s → Shows service.new.responses m (received_hinted s (subscriber_id self.now.slot) 0 self.now.number) }
+        ensures hinted { (m : Messages P Tag) (s : State P Tag) → Shows service.old.responses m s
+            → Shows service.new.responses m (received_hinted s (subscriber_id self.now.slot) 0 self.now.number) }
         ensures stays { StaysService service.old service.new }
     {
         self.slot
@@ -84,7 +88,9 @@ impl PendingResponse {
         requires live { IsLivePending service.old self.now }
         ensures response { IfOk result (λ response. IfSome response (IsLiveResponse service.new)) }
         ensures is_new { IfOk result (λ response. IfSome response (IsNewResponse service.old)) }
-        ensures its { IfOk result (λ response. IfSome response (λ it. (tag : Tag) × SampleHasUserHeader service.new.responses (sample_key it.sample) tag × (tag.number ≡ self.now.number))) }
+        ensures its { IfOk result (λ response. IfSome response
+            (λ it. (tag : Tag) × SampleHasUserHeader service.new.responses (sample_key it.sample) tag
+            × (tag.number ≡ self.now.number))) }
         ensures none { IfOk result (λ response. IfNone response (waiting service.new.responses self.now.slot ≡ 0)) }
         ensures stays { StaysService service.old service.new }
     {
@@ -112,7 +118,8 @@ impl PendingResponse {
         ensures others { (other : Pending) → IsPendingOf client.old other → AreSeparateRequests self other → IsPendingOf client.new other }
         ensures ports { HasPortsOf client.old client.new }
         ensures idle { (before : ItsClient) → HasIdleOf before client.old → HasIdle before.slots.items self.index self.slot → HasIdleOf before client.new }
-        ensures let_go { (m : Messages P Tag) (s : State P Tag) → Shows service.new.responses m s → some_channel_has_state s (subscriber_id self.slot) 0 self.number ≡ false }
+        ensures let_go { (m : Messages P Tag) (s : State P Tag) → Shows service.new.responses m s
+            → some_channel_has_state s (subscriber_id self.slot) 0 self.number ≡ false }
         ensures stays { StaysService service.old service.new }
     {
         let PendingResponse {
@@ -131,7 +138,8 @@ impl PendingResponse {
         service: &mut RequestResponse<Q, P, F, G>,
     )
         requires live { IsLivePending service.old self }
-        ensures let_go { (m : Messages P Tag) (s : State P Tag) (y : Record) → Shows service.old.responses m s → s.subscribers (subscriber_id self.slot) ≡ Some y
+        ensures let_go { (m : Messages P Tag) (s : State P Tag) (y : Record) → Shows service.old.responses m s
+            → s.subscribers (subscriber_id self.slot) ≡ Some y
             → Shows service.new.responses m (subscriber_closed (received_closed s (subscriber_id self.slot) 0 self.number) (subscriber_id self.slot) y) }
         ensures spent { IsSubscriberKey service.new.responses (subscriber_key self.slot) → ⊥ }
         ensures stays { StaysButPending service.old service.new self }
@@ -156,7 +164,8 @@ fn settle<Q: Drop, P: Drop, F: BackpressureFn, G: DegradationFn>(
 )
     requires slot { IsLiveSubscriber service.old.responses slot.now }
     requires number { IsRequestNumber number }
-    ensures let_go { (m : Messages P Tag) (s : State P Tag) → Shows service.new.responses m s → some_channel_has_state s (subscriber_id slot.now) 0 number ≡ false }
+    ensures let_go { (m : Messages P Tag) (s : State P Tag) → Shows service.new.responses m s
+        → some_channel_has_state s (subscriber_id slot.now) 0 number ≡ false }
     ensures stays { StaysService service.old service.new }
 {
     empty(slot, service);
@@ -172,7 +181,8 @@ fn let_go<Q: Drop, P: Drop, F: BackpressureFn, G: DegradationFn>(
     service: &mut RequestResponse<Q, P, F, G>,
 )
     requires slot { IsLiveSubscriber service.old.responses slot.now }
-    ensures closed { (m : Messages P Tag) (s : State P Tag) → Shows service.old.responses m s → Shows service.new.responses m (received_closed s (subscriber_id slot.now) 0 number) }
+    ensures closed { (m : Messages P Tag) (s : State P Tag) → Shows service.old.responses m s
+        → Shows service.new.responses m (received_closed s (subscriber_id slot.now) 0 number) }
     ensures stays { StaysService service.old service.new }
 {
     slot.close_channel(&mut service.responses, 0, number);

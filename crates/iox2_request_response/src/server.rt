@@ -84,7 +84,9 @@ impl Server {
         ensures active { IfOk result (λ active. IfSome active (IsLiveActive service.new)) }
         ensures is_new { IfOk result (λ active. IfSome active (IsNewActive service.old)) }
         ensures tagged { IfOk result (λ active. IfSome active (λ it. IsTagged service.new self.now it)) }
-        ensures connected { IfOk result (λ active. IfSome active (λ it. (m : Messages P Answered) (s : State P Answered) → Shows service.new.responses m s → has_channel_state s (publisher_id self.now.responses) 0 it.place it.number ≡ true)) }
+        ensures connected { IfOk result (λ active. IfSome active
+            (λ it. (m : Messages P Answered) (s : State P Answered) → Shows service.new.responses m s
+            → has_channel_state s (publisher_id self.now.responses) 0 it.place it.number ≡ true)) }
         ensures none { IfOk result (λ active. IfNone active (waiting service.new.requests self.now.requests ≡ 0)) }
         ensures stays { StaysService service.old service.new }
     {
@@ -108,7 +110,9 @@ impl Server {
         requires sample { IsLiveSample service.now.requests sample }
         ensures active { IfOk result (λ active. active.sample ≡ sample) }
         ensures tagged { IfOk result (IsTagged service.now self.now) }
-        ensures connected { IfOk result (λ it. (m : Messages P Answered) (s : State P Answered) → Shows service.now.responses m s → has_channel_state s (publisher_id self.now.responses) 0 it.place it.number ≡ true) }
+        ensures connected { IfOk result (λ it. (m : Messages P Answered) (s : State P Answered)
+            → Shows service.now.responses m s
+            → has_channel_state s (publisher_id self.now.responses) 0 it.place it.number ≡ true) }
         ensures back { IfErr result (λ back. back ≡ sample) }
     {
         let tag = sample.user_header(&service.requests);

@@ -1,5 +1,8 @@
 //! What the tests start from: each call where it has to succeed.
-ghost use Rattle.iox2_request_response.specs.Handles.{AreSeparateRequests, HasIdleOf, HasPortsOf, IsLiveActive, IsLiveClient, IsLivePending, IsLiveResponse, IsLiveServer, IsNewActive, IsNewClient, IsNewResponse, IsNewServer, IsPendingOf};
+ghost use Rattle.iox2_request_response.specs.Handles.{AreSeparateRequests, HasIdleOf, HasPortsOf, IsLiveActive};
+ghost use Rattle.iox2_request_response.specs.Handles.{IsLiveClient, IsLivePending, IsLiveResponse, IsLiveServer};
+ghost use Rattle.iox2_request_response.specs.Handles.{IsNewActive, IsNewClient, IsNewResponse, IsNewServer};
+ghost use Rattle.iox2_request_response.specs.Handles.{IsPendingOf};
 ghost use Rattle.iox2_request_response.specs.Service.{IsService, StaysService};
 ghost use Rattle.iox2_request_response.specs.Slots.{HasIdle};
 ghost use Rattle.iox2_request_response.specs.declared.pending_response.PendingResponse.{PendingResponse as Pending};

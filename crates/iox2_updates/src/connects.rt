@@ -114,9 +114,14 @@ pub(crate) fn make_between<T: Drop, U: Default + Drop>(
     requires buffer { 0 < buffer }
     ensures grows { MakesRoom state.old at.publisher at.subscriber state.new }
     ensures sender_room { OnOk result ((x : PublisherFields) → slice_index_or state.new.publishers at.publisher None ≡ Some x → at.subscriber < x.key_room) }
-    ensures receiver_room { OnOk result ((y : SubscriberFields) → slice_index_or state.new.subscribers at.subscriber None ≡ Some y → at.publisher < y.key_room) }
-    ensures expired_room { OnOk result ((y : SubscriberFields) → slice_index_or state.new.subscribers at.subscriber None ≡ Some y → connection_count (state.old).connections home.subscriber < y.expired_room) }
-    ensures made { IfOk result (λ key. MakesConnection (state.old).connections home buffer (state.old).config.subscriber_max_borrowed_samples (channel_count (state.old).config) key (state.new).connections) }
+    ensures receiver_room { OnOk result ((y : SubscriberFields)
+        → slice_index_or state.new.subscribers at.subscriber None ≡ Some y → at.publisher < y.key_room) }
+    ensures expired_room { OnOk result ((y : SubscriberFields)
+        → slice_index_or state.new.subscribers at.subscriber None ≡ Some y
+        → connection_count (state.old).connections home.subscriber < y.expired_room) }
+    ensures made { IfOk result (λ key. MakesConnection (state.old).connections home buffer
+        (state.old).config.subscriber_max_borrowed_samples (channel_count (state.old).config) key
+        (state.new).connections) }
     ensures refused { OnErr result ((state.new).connections ≡ record (state.old).connections { capacity = (state.new).connections.capacity }) }
 {
     let most = most_connections(state, at.subscriber);
@@ -158,7 +163,8 @@ fn make_sender_end<T: Drop, U: Default + Drop, F: BackpressureFn, G: Degradation
     requires opened { is_open_subscriber state.old.subscribers at.subscriber ≡ true }
     requires none { sender_key state.old.publishers at.publisher at.subscriber ≡ None }
     ensures made { (settled : IsSettledAt state.old at)
-        → MatchResult result (λ key. MakesSenderEnd (answers_of F.allows G.allows (boxes.now).boxes) state.old at.publisher at.subscriber settled.publisher key state.new)
+        → MatchResult result (λ key. MakesSenderEnd (answers_of F.allows G.allows (boxes.now).boxes) state.old
+        at.publisher at.subscriber settled.publisher key state.new)
         (λ failure. ConnectsSender (answers_of F.allows G.allows (boxes.now).boxes) state.old at.publisher at.subscriber settled.publisher state.new failure) }
     ensures books { (state.new).books ≡ (state.old).books }
 {
@@ -212,7 +218,9 @@ fn connect_sender<T: Drop, U: Default + Drop, F: BackpressureFn, G: DegradationF
     requires settled { IsSettledAt state.old at }
     requires none { sender_key state.old.publishers at.publisher at.subscriber ≡ None }
     requires few { (settled : IsSettledAt state.old at) → HasCountRoom (state.old).books settled.publisher.book }
-    ensures connects { (settled : IsSettledAt state.old at) → ConnectsSender (answers_of F.allows G.allows (boxes.now).boxes) state.old at.publisher at.subscriber settled.publisher state.new result }
+    ensures connects { (settled : IsSettledAt state.old at)
+        → ConnectsSender (answers_of F.allows G.allows (boxes.now).boxes) state.old at.publisher at.subscriber
+        settled.publisher state.new result }
     ensures gains { GainsHolders 1 (state.old).books (state.new).books }
 {
     if !is_open_at(&state.subscribers, at.subscriber) {
@@ -286,7 +294,9 @@ pub(crate) fn update_sender_place<T: Drop, U: Default + Drop, F: BackpressureFn,
 ) -> Option<ConnectionFailure>
     requires settled { IsSettledAt state.old at }
     requires few { (settled : IsSettledAt state.old at) → HasCountRoom (state.old).books settled.publisher.book }
-    ensures connects { (settled : IsSettledAt state.old at) → ConnectsSender (answers_of F.allows G.allows (boxes.now).boxes) state.old at.publisher at.subscriber settled.publisher state.new result }
+    ensures connects { (settled : IsSettledAt state.old at)
+        → ConnectsSender (answers_of F.allows G.allows (boxes.now).boxes) state.old at.publisher at.subscriber
+        settled.publisher state.new result }
     ensures gains { GainsHolders 1 (state.old).books (state.new).books }
 {
     let Some(key) = key_at(&state.publishers, at.publisher, at.subscriber) else {

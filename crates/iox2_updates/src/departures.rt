@@ -145,7 +145,8 @@ fn has_borrowed(connections: &Slab<Connection>, subscriber: &SubscriberState) ->
 /// iceoryx2's `SubscriberSharedState`, which goes with the last sample (`src/port/subscriber.rs`).
 pub fn leave_if_unused<T: Drop, U: Default + Drop>(state: &mut DomainState<T, U>, place: usize)
     requires consistent { HasParts state.old }
-    requires stands { (y : SubscriberFields) × (slice_index_or state.old.subscribers place None ≡ Some y) × ((p : ℕ) → MailboxIsWellFormed (state_of (kept_of state.old)) p y.id) }
+    requires stands { (y : SubscriberFields) × (slice_index_or state.old.subscribers place None ≡ Some y)
+        × ((p : ℕ) → MailboxIsWellFormed (state_of (kept_of state.old)) p y.id) }
     ensures freed { (y : SubscriberFields) → slice_index_or state.old.subscribers place None ≡ Some y
         → (before : _) (s : _) (book : ℕ) → IsMidway before state.old s book → IsMidway before state.new (freed_if_unused s y.id) book }
 {
@@ -171,7 +172,8 @@ pub fn forget_if_empty<T: Drop, U: Default + Drop>(
 )
     requires home { IsSomeAnd (get state.old.connections key) (λ c. c.home ≡ home) }
     requires stands { home.subscriber_place < length state.old.subscribers }
-    requires only { (y : SubscriberFields) → slice_index_or state.old.subscribers home.subscriber_place None ≡ Some y → (i : ℕ) → slice_index_or y.keys i None ≡ Some key → i ≡ home.publisher_place }
+    requires only { (y : SubscriberFields) → slice_index_or state.old.subscribers home.subscriber_place None ≡ Some y
+        → (i : ℕ) → slice_index_or y.keys i None ≡ Some key → i ≡ home.publisher_place }
     ensures empty { (c : Link) → get state.old.connections key ≡ Some c → load c ≡ 0 → ForgetsConnection state.old home.subscriber_place key state.new }
     ensures full { (c : Link) → get state.old.connections key ≡ Some c → (load c ≡ 0 → ⊥) → state.new ≡ state.old }
 {

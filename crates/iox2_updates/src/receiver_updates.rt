@@ -91,7 +91,9 @@ fn connect_end<T: Drop, U: Default + Drop, F: BackpressureFn, G: DegradationFn>(
     at: Places,
 ) -> Option<ConnectionFailure>
     requires { MeetAt state.old at None }
-    ensures { (meet : MeetAt state.old at None) → ConnectsEnd (answers_of F.allows G.allows (boxes.now).boxes) state.old at.subscriber at.publisher meet.subscriber meet.publisher.id state.new result }
+    ensures { (meet : MeetAt state.old at None)
+        → ConnectsEnd (answers_of F.allows G.allows (boxes.now).boxes) state.old at.subscriber at.publisher
+        meet.subscriber meet.publisher.id state.new result }
 {
     let (home, buffer) = ports_at(state, at);
     if let Some(key) = joined_key(state, at, home.subscriber) {
@@ -131,7 +133,9 @@ fn replace_end<T: Drop, U: Default + Drop, F: BackpressureFn, G: DegradationFn>(
 ) -> Option<ConnectionFailure>
     requires meet { MeetAt state.old at (Some key) }
     requires publisher { (meet : MeetAt state.old at (Some key)) → meet.publisher.id ≡ publisher }
-    ensures { (meet : MeetAt state.old at (Some key)) → ConnectsAt (answers_of F.allows G.allows (boxes.now).boxes) state.old at.subscriber at.publisher meet.subscriber state.new result }
+    ensures { (meet : MeetAt state.old at (Some key))
+        → ConnectsAt (answers_of F.allows G.allows (boxes.now).boxes) state.old at.subscriber at.publisher
+        meet.subscriber state.new result }
 {
     if is_publishers(state, key, publisher) {
         return None;
@@ -197,7 +201,9 @@ fn walk_places<T: Drop, U: Default + Drop, F: BackpressureFn, G: DegradationFn>(
     place: usize,
 ) -> Option<ConnectionFailure>
     requires { IsReceiverDue state.old place }
-    ensures { (due : IsReceiverDue state.old place) → UpdatesReceiver (answers_of F.allows G.allows (boxes.now).boxes) state.old place due.subscriber state.new result }
+    ensures { (due : IsReceiverDue state.old place)
+        → UpdatesReceiver (answers_of F.allows G.allows (boxes.now).boxes) state.old place due.subscriber state.new
+        result }
 {
     clear_due(&mut state.subscribers, place);
     let mut first = None;

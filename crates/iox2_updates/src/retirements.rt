@@ -105,7 +105,8 @@ fn choose<T: Drop, U: Default + Drop>(
     key: usize,
 ) -> Retirement
     requires { DepartedAt state.now at key }
-    ensures { (departed : DepartedAt state.now at key) → result ≡ chosen state.now.connections (expired_limit (state.now).config) departed.subscriber.expired key }
+    ensures { (departed : DepartedAt state.now at key)
+        → result ≡ chosen state.now.connections (expired_limit (state.now).config) departed.subscriber.expired key }
 {
     let Some(subscriber) = &state.subscribers[at.subscriber] else {
         unreachable!()
@@ -129,7 +130,9 @@ pub(crate) fn retire<T: Drop, U: Default + Drop>(
     key: usize,
 ) -> bool
     requires { DepartedAt state.old at key }
-    ensures { (departed : DepartedAt state.old at key) → RetiresReceiver state.old at.subscriber at.publisher departed.subscriber departed.link.home.publisher state.new result }
+    ensures { (departed : DepartedAt state.old at key)
+        → RetiresReceiver state.old at.subscriber at.publisher departed.subscriber departed.link.home.publisher
+        state.new result }
 {
     match choose(state, at, key) {
         Retirement::KeepExpired => keep_expired(state, at, key),

@@ -48,7 +48,9 @@ fn connect_publisher<T: Drop, U: Default + Drop, F: BackpressureFn, G: Degradati
     place: usize,
 ) -> Option<ConnectionFailure>
     requires { IsSenderDue state.old place }
-    ensures { (due : IsSenderDue state.old place) → UpdatesKeptPublisher (answers_of F.allows G.allows (boxes.now).boxes) state.old place due.publisher state.new result }
+    ensures { (due : IsSenderDue state.old place)
+        → UpdatesKeptPublisher (answers_of F.allows G.allows (boxes.now).boxes) state.old place due.publisher
+        state.new result }
 {
     reclaim(state, place);
     walk_places(state, boxes, place)
@@ -63,7 +65,9 @@ fn walk_places<T: Drop, U: Default + Drop, F: BackpressureFn, G: DegradationFn>(
 ) -> Option<ConnectionFailure>
     requires due { IsSenderDue state.old place }
     requires few { (due : IsSenderDue state.old place) → HasFewHolders (state.old).books due.publisher.book (2 ^ 62) }
-    ensures { (due : IsSenderDue state.old place) → UpdatesKeptPublisher (answers_of F.allows G.allows (boxes.now).boxes) state.old place due.publisher state.new result }
+    ensures { (due : IsSenderDue state.old place)
+        → UpdatesKeptPublisher (answers_of F.allows G.allows (boxes.now).boxes) state.old place due.publisher
+        state.new result }
 {
     clear_due(&mut state.publishers, place);
     let mut first = None;

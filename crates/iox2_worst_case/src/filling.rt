@@ -2,7 +2,10 @@
 ghost use Rattle.std.specs.Prelude.{◌≡◌, ◌+◌, ◌*◌, ◌≤◌, ◌<◌, ◌∷◌, [], ◌++◌, ◌↔◌, replicate, IsTrue, IfSome, OnSome, ℕ, vec_len, vec_capacity};
 ghost use Rattle.iox2_machine.specs.machine.Limits.{worst_case};
 ghost use Rattle.iox2_worst_case.specs.Fills.{Fills, is_granted};
-ghost use Rattle.iox2_worst_case.specs.FillingCommands.{loan_command as loan_spec, publisher_command as publisher_spec, sends, rounds, subscriber_filled, subscribers_filled, filling_length, filling_commands, IsFillable, RefusesForWantOfSlots};
+ghost use Rattle.iox2_worst_case.specs.FillingCommands.{loan_command as loan_spec};
+ghost use Rattle.iox2_worst_case.specs.FillingCommands.{publisher_command as publisher_spec, sends, rounds};
+ghost use Rattle.iox2_worst_case.specs.FillingCommands.{subscriber_filled, subscribers_filled, filling_length};
+ghost use Rattle.iox2_worst_case.specs.FillingCommands.{filling_commands, IsFillable, RefusesForWantOfSlots};
 ghost use Rattle.iox2_commands.specs.declared.command.Command.TheVariants.{WriteAll, Send};
 
 use iox2_commands::{Command, NewPublisher, Reply};
@@ -37,7 +40,8 @@ pub fn worst_case_commands<T: Copy + Drop, U: Drop>(
     ensures fillable { OnSome result (IsFillable config.now loans) }
     ensures commands { IfSome result (λ list. list.items ≡ filling_commands config.now loans value slots) }
     ensures fills { IfSome result (λ list. slots ≡ None → Fills config.now loans list.items) }
-    ensures least { IfSome result (λ list. (fewer : ℕ) → slots ≡ Some fewer → fewer < worst_case config.now loans → RefusesForWantOfSlots config.now loans list.items) }
+    ensures least { IfSome result (λ list. (fewer : ℕ) → slots ≡ Some fewer → fewer < worst_case config.now loans
+        → RefusesForWantOfSlots config.now loans list.items) }
 {
     if !is_fillable(config, loans) {
         return None;

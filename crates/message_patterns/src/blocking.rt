@@ -2,7 +2,10 @@
 //! blocked send is given to the caller, who tries it again once there is room.
 ghost use Rattle.std.specs.Prelude.{ℕ, List, [], ◌∷◌, ◌++◌, ◌+◌, ◌<◌, ◌≤◌, ◌≡◌, length, IfNone, IfOk, IfSome, OnOk};
 ghost use Rattle.iox2_pubsub.specs.Handles.{blocked_sender, buffer_size_of, publisher_id};
-ghost use Rattle.iox2_pubsub.specs.Live.{A_blocked_send, HasItsBuffer, IsBlockedSend, IsConnected, IsLiveSubscriber, IsPending, IsReadyPublisher, IsSingleValued, IsSubscriberKey, IsUpToDate, StaysBut, UpToDateStay, blocked_key, lender_key, publisher_key, subscriber_key};
+ghost use Rattle.iox2_pubsub.specs.Live.{A_blocked_send, HasItsBuffer, IsBlockedSend, IsConnected, IsLiveSubscriber};
+ghost use Rattle.iox2_pubsub.specs.Live.{IsPending, IsReadyPublisher, IsSingleValued, IsSubscriberKey, IsUpToDate};
+ghost use Rattle.iox2_pubsub.specs.Live.{StaysBut, UpToDateStay, blocked_key, lender_key, publisher_key};
+ghost use Rattle.iox2_pubsub.specs.Live.{subscriber_key};
 ghost use Rattle.iox2_pubsub.specs.BorrowsLeft.{BorrowsLeftStay, HasBorrowsLeft};
 ghost use Rattle.iox2_pubsub.specs.RoomyPublishers.{HasRoomAlone, HasRoomAt};
 ghost use Rattle.iox2_pubsub.specs.declared.subscriber.Subscriber.{Subscriber as Port};
@@ -29,8 +32,12 @@ pub fn push_or_wait<F: BackpressureFn, G: DegradationFn>(
     ensures taken { (subscriber : Port) (earlier : List ℕ) (more : ℕ) → TakesMore domain.old (publisher_id publisher.now) subscriber earlier (more + 1)
         → IfOk result (λ waits. IfNone waits (TakesMore domain.new (publisher_id publisher.now) subscriber (earlier ++ value ∷ []) more)) }
     ensures roomy { (subscriber : Port) → HasRoomAlone domain.old (publisher_id publisher.now) subscriber → IfOk result (λ waits. IfSome waits (λ it. ⊥)) }
-    ensures waits { (subscriber : Port) (earlier : List ℕ) → Wait domain.old (publisher_id publisher.now) subscriber earlier → IsConnected domain.old (publisher_id publisher.now) subscriber
-        → IfOk result (λ waits. IfSome waits (λ it. Wait domain.new (publisher_id publisher.now) subscriber earlier × IsPending domain.new it subscriber (value ∷ []))) }
+    ensures waits { (subscriber : Port) (earlier : List ℕ)
+        → Wait domain.old (publisher_id publisher.now) subscriber earlier
+        → IsConnected domain.old (publisher_id publisher.now) subscriber
+        → IfOk result (λ waits. IfSome waits
+        (λ it. Wait domain.new (publisher_id publisher.now) subscriber earlier
+        × IsPending domain.new it subscriber (value ∷ []))) }
     ensures blocked { IfOk result (λ waits. IfSome waits (λ it. IsBlockedSend domain.new it × (lender_key (blocked_key it) ≡ publisher_key publisher.now))) }
     ensures borrows { BorrowsLeftStay domain.old domain.new }
     ensures up_to_date { UpToDateStay domain.old domain.new }
@@ -51,14 +58,22 @@ pub fn push_again<F: BackpressureFn, G: DegradationFn>(
 ) -> Result<Option<BlockedSend>, Failure>
     requires live { IsBlockedSend domain.old waiting }
     requires one { (domain.old.config).max_subscribers ≡ 1 }
-    ensures taken { (subscriber : Port) (value : ℕ) (earlier : List ℕ) → IsPending domain.old waiting subscriber (value ∷ []) → IsConnected domain.old (blocked_sender waiting) subscriber
+    ensures taken { (subscriber : Port) (value : ℕ) (earlier : List ℕ)
+        → IsPending domain.old waiting subscriber (value ∷ [])
+        → IsConnected domain.old (blocked_sender waiting) subscriber
         → Wait domain.old (blocked_sender waiting) subscriber earlier
         → HasItsBuffer domain.old subscriber → length earlier < buffer_size_of subscriber
         → IfOk result (λ waits. IfNone waits (Wait domain.new (blocked_sender waiting) subscriber (earlier ++ value ∷ []))) }
-    ensures waits { (subscriber : Port) (value : ℕ) (earlier : List ℕ) → IsPending domain.old waiting subscriber (value ∷ []) → IsConnected domain.old (blocked_sender waiting) subscriber
+    ensures waits { (subscriber : Port) (value : ℕ) (earlier : List ℕ)
+        → IsPending domain.old waiting subscriber (value ∷ [])
+        → IsConnected domain.old (blocked_sender waiting) subscriber
         → Wait domain.old (blocked_sender waiting) subscriber earlier
-        → IfOk result (λ waits. IfSome waits (λ it. Wait domain.new (blocked_sender waiting) subscriber earlier × IsPending domain.new it subscriber (value ∷ []))) }
-    ensures roomy { (subscriber : Port) (value : ℕ) → IsPending domain.old waiting subscriber (value ∷ []) → IsSubscriberKey domain.old (subscriber_key subscriber) → HasRoomAt domain.old (blocked_sender waiting) subscriber
+        → IfOk result (λ waits. IfSome waits
+        (λ it. Wait domain.new (blocked_sender waiting) subscriber earlier
+        × IsPending domain.new it subscriber (value ∷ []))) }
+    ensures roomy { (subscriber : Port) (value : ℕ) → IsPending domain.old waiting subscriber (value ∷ [])
+        → IsSubscriberKey domain.old (subscriber_key subscriber)
+        → HasRoomAt domain.old (blocked_sender waiting) subscriber
         → IfOk result (λ waits. IfSome waits (λ it. ⊥)) }
     ensures blocked { IfOk result (λ waits. IfSome waits (λ it. IsBlockedSend domain.new it × (blocked_key it ≡ blocked_key waiting))) }
     ensures up_to_date { UpToDateStay domain.old domain.new }
@@ -91,7 +106,9 @@ pub fn push_over(
     ensures taken { (earlier : List ℕ) → TakesMore domain.old (publisher_id publisher.now) subscriber.now earlier 1
         → IfOk result (λ out. IfNone out (Wait domain.new (publisher_id publisher.now) subscriber.now (earlier ++ value ∷ []))) }
     ensures over { (earlier : List ℕ) → Wait domain.old (publisher_id publisher.now) subscriber.now earlier → length earlier ≤ buffer_size_of subscriber.now
-        → IfOk result (λ out. IfSome out (λ first. (others : List ℕ) × (earlier ≡ first ∷ others) × Wait domain.new (publisher_id publisher.now) subscriber.now (others ++ value ∷ []))) }
+        → IfOk result (λ out. IfSome out
+        (λ first. (others : List ℕ) × (earlier ≡ first ∷ others)
+        × Wait domain.new (publisher_id publisher.now) subscriber.now (others ++ value ∷ []))) }
 {
     let Some(waiting) = push_or_wait(domain, publisher, value)? else {
         return Ok(None);

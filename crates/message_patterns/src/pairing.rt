@@ -23,7 +23,9 @@ pub fn send_both(
     requires apart { publisher_id left.now ≢ publisher_id right.now }
     requires connected { IsConnected domain.old (publisher_id left.now) subscriber.now × IsConnected domain.old (publisher_id right.now) subscriber.now }
     requires drained { waiting domain.old subscriber.now ≡ 0 }
-    ensures each { OnOk result (AllFromEach domain.new subscriber.now (share_of (publisher_id right.now) ((readings.1 ∷ []) ∷ []) ∷ share_of (publisher_id left.now) ((readings.0 ∷ []) ∷ []) ∷ [])) }
+    ensures each { OnOk result (AllFromEach domain.new subscriber.now
+        (share_of (publisher_id right.now) ((readings.1 ∷ []) ∷ []) ∷ share_of (publisher_id left.now)
+        ((readings.0 ∷ []) ∷ []) ∷ [])) }
     ensures up_to_date { UpToDateStay domain.old domain.new }
     ensures stays { Stays domain.old domain.new }
 {
@@ -36,7 +38,9 @@ pub fn send_beside(domain: &mut Numbers, publisher: &Publisher, reading: u32) ->
     requires single_valued { IsSingleValued domain.old }
     requires publisher { IsLivePublisher domain.old publisher.now }
     ensures begins { (subscriber : Port) (shares : List (Share ℕ)) → AllFromEach domain.old subscriber shares → HasNoShare (publisher_id publisher.now) shares
-        → IsConnected domain.old (publisher_id publisher.now) subscriber → OnOk result (AllFromEach domain.new subscriber (share_of (publisher_id publisher.now) ((reading ∷ []) ∷ []) ∷ shares)) }
+        → IsConnected domain.old (publisher_id publisher.now) subscriber
+        → OnOk result (AllFromEach domain.new subscriber
+        (share_of (publisher_id publisher.now) ((reading ∷ []) ∷ []) ∷ shares)) }
     ensures up_to_date { UpToDateStay domain.old domain.new }
     ensures stays { Stays domain.old domain.new }
 {

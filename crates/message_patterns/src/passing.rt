@@ -1,7 +1,10 @@
 //! Values are sent, and all that waits is read.
 ghost use Rattle.std.specs.Prelude.{ℕ, List, [], ◌∷◌, ◌++◌, ◌+◌, ◌<◌, ◌≡◌, length, suc, IfErr, IfOk, IfNone, IfSome, IsOk, OnOk, OnSome};
 ghost use Rattle.iox2_pubsub.specs.Handles.{publisher_id, unwritten_lender};
-ghost use Rattle.iox2_pubsub.specs.Live.{HasLender, IsConsistent, IsLivePublisher, IsLiveSubscriber, IsSingleValued, IsUnblocked, NeverWaitsUnwritten, IsUpToDate, KeepsAll, Stays, StaysBut, UpToDateStay, WaitingStays, payloads_from, unwritten_key, unwritten_loan, waiting};
+ghost use Rattle.iox2_pubsub.specs.Live.{HasLender, IsConsistent, IsLivePublisher, IsLiveSubscriber, IsSingleValued};
+ghost use Rattle.iox2_pubsub.specs.Live.{IsUnblocked, NeverWaitsUnwritten, IsUpToDate, KeepsAll, Stays, StaysBut};
+ghost use Rattle.iox2_pubsub.specs.Live.{UpToDateStay, WaitingStays, payloads_from, unwritten_key, unwritten_loan};
+ghost use Rattle.iox2_pubsub.specs.Live.{waiting};
 ghost use Rattle.iox2_pubsub.specs.LoansLeft.{HasOneMoreLeft, LoansLeftStay};
 ghost use Rattle.iox2_pubsub.specs.declared.subscriber.Subscriber.{Subscriber as Port};
 ghost use Rattle.iox2_pubsub.specs.BorrowsLeft.{BorrowsLeftStay, HasBorrowsLeft};
@@ -36,7 +39,8 @@ pub fn send_loan(domain: &mut Numbers, loan: SampleMutUninit, value: u32)
     requires loan { NeverWaitsUnwritten domain.old loan }
     requires unblocked { IsUnblocked domain.old (unwritten_key loan) }
     requires lent { HasLender domain.old (unwritten_key loan) }
-    ensures sent { (publisher : ℕ) (reader : Port) (earlier : List ℕ) (more : ℕ) → unwritten_lender loan ≡ publisher → TakesMore domain.old publisher reader earlier (more + 1)
+    ensures sent { (publisher : ℕ) (reader : Port) (earlier : List ℕ) (more : ℕ) → unwritten_lender loan ≡ publisher
+        → TakesMore domain.old publisher reader earlier (more + 1)
         → TakesMore domain.new publisher reader (earlier ++ value ∷ []) more }
     ensures loans { LoansLeftStay domain.old domain.new }
     ensures borrows { BorrowsLeftStay domain.old domain.new }
@@ -56,7 +60,8 @@ pub fn send_loan(domain: &mut Numbers, loan: SampleMutUninit, value: u32)
 pub fn send_all(domain: &mut Numbers, publisher: &Publisher, values: &[u32]) -> Result<(), Failure>
     requires single_valued { IsSingleValued domain.old }
     requires publisher { IsLivePublisher domain.old publisher.now }
-    ensures sent { (subscriber : Port) (earlier : List ℕ) (more : ℕ) → TakesMore domain.old (publisher_id publisher.now) subscriber earlier (length values.now + more)
+    ensures sent { (subscriber : Port) (earlier : List ℕ) (more : ℕ)
+        → TakesMore domain.old (publisher_id publisher.now) subscriber earlier (length values.now + more)
         → OnOk result (TakesMore domain.new (publisher_id publisher.now) subscriber (earlier ++ values.now) more) }
     ensures granted { (n : ℕ) → CanSendValues domain.old publisher.now (length values.now + n) → IsOk result × CanSendValues domain.new publisher.now n }
     ensures up_to_date { UpToDateStay domain.old domain.new }

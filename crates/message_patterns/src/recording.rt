@@ -3,7 +3,9 @@
 ghost use Rattle.std.specs.Prelude.{ℕ, List, [], ◌∷◌, ◌++◌, ◌+◌, ◌≡◌, IfNone, IfOk, IfSome, MatchResult};
 ghost use Rattle.iox2_pubsub.specs.BlockedSends.{StaysSince};
 ghost use Rattle.iox2_pubsub.specs.Handles.{blocked_sender, publisher_id};
-ghost use Rattle.iox2_pubsub.specs.Live.{A_blocked_send, IsBlockedSend, IsConnected, IsPending, IsReadyPublisher, IsSingleValued, Stays, StaysBut, UpToDateStay, blocked_key, blocked_item, lender_key, publisher_key};
+ghost use Rattle.iox2_pubsub.specs.Live.{A_blocked_send, IsBlockedSend, IsConnected, IsPending, IsReadyPublisher};
+ghost use Rattle.iox2_pubsub.specs.Live.{IsSingleValued, Stays, StaysBut, UpToDateStay, blocked_key, blocked_item};
+ghost use Rattle.iox2_pubsub.specs.Live.{lender_key, publisher_key};
 ghost use Rattle.message_patterns.specs.Recordings.{CarriesOn, RecorderIsServed};
 ghost use Rattle.message_patterns.specs.Values.{TakesMore};
 

@@ -26,9 +26,12 @@ pub fn relay(
     requires subscriber { IsLiveSubscriber from.old subscriber.now }
     requires to { IsSingleValued to.old }
     requires publisher { IsLivePublisher to.old publisher.now }
-    ensures moves { (origin : ℕ) (reader : Port) (values earlier : List ℕ) (more : ℕ) → KeepsAll from.old subscriber.now → Wait from.old origin subscriber.now values
+    ensures moves { (origin : ℕ) (reader : Port) (values earlier : List ℕ) (more : ℕ)
+        → KeepsAll from.old subscriber.now → Wait from.old origin subscriber.now values
         → TakesMore to.old (publisher_id publisher.now) reader earlier (n + more)
-        → (count : ℕ) × (count ≤ n) × HasMoved from.new to.new origin subscriber.now (publisher_id publisher.now) reader values earlier count more × IfOk result (λ moved. moved ≡ count) }
+        → (count : ℕ) × (count ≤ n)
+        × HasMoved from.new to.new origin subscriber.now (publisher_id publisher.now) reader values earlier count
+        more × IfOk result (λ moved. moved ≡ count) }
     ensures granted { IsUpToDate from.old subscriber.now → HasBorrowsLeft from.old subscriber.now 1 → CanSendValues to.old publisher.now n → IsOk result }
     ensures all { IfOk result (λ moved. (moved ≡ n) ⊎ (waiting from.new subscriber.now ≡ 0)) }
     ensures up_to_date { UpToDateStay from.old from.new × UpToDateStay to.old to.new }
@@ -56,11 +59,14 @@ fn relay_one(
     requires publisher { IsLivePublisher to.old publisher.now }
     ensures first { IfOk result (λ read. IfSome read (λ value. (origin : ℕ) (values : List ℕ) → Wait from.old origin subscriber.now values
         → (others : List ℕ) × (values ≡ value ∷ others) × Wait from.new origin subscriber.now others)) }
-    ensures sent { IfOk result (λ read. IfSome read (λ value. (reader : Port) (earlier : List ℕ) (more : ℕ) → TakesMore to.old (publisher_id publisher.now) reader earlier (more + 1)
+    ensures sent { IfOk result (λ read. IfSome read
+        (λ value. (reader : Port) (earlier : List ℕ) (more : ℕ)
+        → TakesMore to.old (publisher_id publisher.now) reader earlier (more + 1)
         → TakesMore to.new (publisher_id publisher.now) reader (earlier ++ value ∷ []) more)) }
     ensures unsent { OnNoValue result (WaitingStays to.old to.new) }
     ensures kept { KeepsAll from.old subscriber.now → OnNoValue result (WaitingStays from.old from.new) }
-    ensures granted { IsUpToDate from.old subscriber.now → HasBorrowsLeft from.old subscriber.now 1 → (left : ℕ) → CanSendValues to.old publisher.now (left + 1) → IsOk result × CanSendValues to.new publisher.now left }
+    ensures granted { IsUpToDate from.old subscriber.now → HasBorrowsLeft from.old subscriber.now 1 → (left : ℕ)
+        → CanSendValues to.old publisher.now (left + 1) → IsOk result × CanSendValues to.new publisher.now left }
     ensures borrows { HasBorrowsLeft from.old subscriber.now 1 → HasBorrowsLeft from.new subscriber.now 1 }
     ensures none { IfOk result (λ read. IfNone read (waiting from.new subscriber.now ≡ 0)) }
     ensures up_to_date { UpToDateStay from.old from.new × UpToDateStay to.old to.new }

@@ -2,7 +2,8 @@
 //! then is said.
 ghost use Rattle.std.specs.Prelude.{ℕ, [], ◌∷◌, ◌≡◌, ◌≢◌, IfNone, IfOk, IfSome};
 ghost use Rattle.iox2_pubsub.specs.Handles.{blocked_sender, publisher_id, subscriber_id};
-ghost use Rattle.iox2_pubsub.specs.Live.{A_blocked_send, IsBlockedSend, IsConnected, IsPending, IsReadyPublisher, IsServed, IsServedOrPending, IsSingleValued, StaysBut, UpToDateStay};
+ghost use Rattle.iox2_pubsub.specs.Live.{A_blocked_send, IsBlockedSend, IsConnected, IsPending, IsReadyPublisher};
+ghost use Rattle.iox2_pubsub.specs.Live.{IsServed, IsServedOrPending, IsSingleValued, StaysBut, UpToDateStay};
 ghost use Rattle.iox2_pubsub.specs.RoomyPublishers.{HasRoomAt};
 ghost use Rattle.iox2_pubsub.specs.declared.subscriber.Subscriber.{Subscriber as Port};
 
@@ -26,9 +27,15 @@ pub fn spread<F: BackpressureFn, G: DegradationFn>(
     requires publisher { IsReadyPublisher domain.old publisher.now }
     requires first { IsConnected domain.old (publisher_id publisher.now) first.now }
     requires second { IsConnected domain.old (publisher_id publisher.now) second.now }
-    ensures roomy { HasRoomAt domain.old (publisher_id publisher.now) first.now → HasRoomAt domain.old (publisher_id publisher.now) second.now → IfOk result (λ waits. IfSome waits (λ it. ⊥)) }
-    ensures served { IfOk result (λ waits. IfNone waits (IsServed domain.old domain.new (publisher_id publisher.now) first.now (value ∷ []) × IsServed domain.old domain.new (publisher_id publisher.now) second.now (value ∷ []))) }
-    ensures waits { IfOk result (λ waits. IfSome waits (λ it. IsBlockedSend domain.new it × IsServedOrPending domain.old domain.new it first.now (value ∷ []) × IsServedOrPending domain.old domain.new it second.now (value ∷ []))) }
+    ensures roomy { HasRoomAt domain.old (publisher_id publisher.now) first.now
+        → HasRoomAt domain.old (publisher_id publisher.now) second.now
+        → IfOk result (λ waits. IfSome waits (λ it. ⊥)) }
+    ensures served { IfOk result (λ waits. IfNone waits
+        (IsServed domain.old domain.new (publisher_id publisher.now) first.now (value ∷ [])
+        × IsServed domain.old domain.new (publisher_id publisher.now) second.now (value ∷ []))) }
+    ensures waits { IfOk result (λ waits. IfSome waits
+        (λ it. IsBlockedSend domain.new it × IsServedOrPending domain.old domain.new it first.now (value ∷ [])
+        × IsServedOrPending domain.old domain.new it second.now (value ∷ []))) }
     ensures up_to_date { UpToDateStay domain.old domain.new }
     ensures stays { StaysBut (A_blocked_send (publisher_id publisher.now)) domain.old domain.new }
 {
@@ -45,7 +52,8 @@ pub fn spread_again<F: BackpressureFn, G: DegradationFn>(
     waiting: BlockedSend,
 ) -> Result<Option<BlockedSend>, Failure>
     requires live { IsBlockedSend domain.old waiting }
-    ensures served { (subscriber : Port) (value : ℕ) → IsPending domain.old waiting subscriber (value ∷ []) → IsConnected domain.old (blocked_sender waiting) subscriber
+    ensures served { (subscriber : Port) (value : ℕ) → IsPending domain.old waiting subscriber (value ∷ [])
+        → IsConnected domain.old (blocked_sender waiting) subscriber
         → IfOk result (λ waits. IfNone waits (IsServed domain.old domain.new (blocked_sender waiting) subscriber (value ∷ []))) }
     ensures up_to_date { UpToDateStay domain.old domain.new }
 {

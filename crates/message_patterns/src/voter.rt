@@ -25,12 +25,15 @@ pub fn vote(
     requires second { IsLivePublisher domain.old second.now }
     requires third { IsLivePublisher domain.old third.now }
     requires apart { AllApart (publisher_id third.now ∷ publisher_id second.now ∷ publisher_id first.now ∷ []) }
-    requires connected { IsConnected domain.old (publisher_id first.now) subscriber.now × IsConnected domain.old (publisher_id second.now) subscriber.now × IsConnected domain.old (publisher_id third.now) subscriber.now }
+    requires connected { IsConnected domain.old (publisher_id first.now) subscriber.now
+        × IsConnected domain.old (publisher_id second.now) subscriber.now
+        × IsConnected domain.old (publisher_id third.now) subscriber.now }
     requires subscriber { IsLiveSubscriber domain.old subscriber.now }
     requires up_to_date { IsUpToDate domain.old subscriber.now }
     requires drained { waiting domain.old subscriber.now ≡ 0 }
     ensures middle { IfOk result (λ it. IsMiddle it readings.0 readings.1 readings.2) }
-    ensures majority { IfOk result (λ it. (readings.0 ≡ readings.1 → it ≡ readings.0) × (readings.0 ≡ readings.2 → it ≡ readings.0) × (readings.1 ≡ readings.2 → it ≡ readings.1)) }
+    ensures majority { IfOk result (λ it. (readings.0 ≡ readings.1 → it ≡ readings.0)
+        × (readings.0 ≡ readings.2 → it ≡ readings.0) × (readings.1 ≡ readings.2 → it ≡ readings.1)) }
     ensures up_to_date { UpToDateStay domain.old domain.new }
     ensures stays { Stays domain.old domain.new }
 {
@@ -53,7 +56,9 @@ fn cast_all(
     requires apart { AllApart (publisher_id third.now ∷ publisher_id second.now ∷ publisher_id first.now ∷ []) }
     ensures cast { (subscriber : Port) → waiting domain.old subscriber ≡ 0 → IsConnected domain.old (publisher_id first.now) subscriber
         → IsConnected domain.old (publisher_id second.now) subscriber → IsConnected domain.old (publisher_id third.now) subscriber
-        → OnOk result (VotesWait domain.new subscriber (vote_of (publisher_id third.now) readings.2 ∷ vote_of (publisher_id second.now) readings.1 ∷ vote_of (publisher_id first.now) readings.0 ∷ [])) }
+        → OnOk result (VotesWait domain.new subscriber
+        (vote_of (publisher_id third.now) readings.2 ∷ vote_of (publisher_id second.now) readings.1 ∷ vote_of
+        (publisher_id first.now) readings.0 ∷ [])) }
     ensures up_to_date { UpToDateStay domain.old domain.new }
     ensures stays { Stays domain.old domain.new }
 {

@@ -37,8 +37,10 @@ pub fn script<R: Read, W: Write, E: Write>(
     output: &mut W,
     errors: &mut E,
 ) -> Ending
-    ensures printed { result ≡ Printed → PrintsAll (R.remaining input.old) (W.contents output.old) (W.contents output.new) (E.contents errors.old) (E.contents errors.new) }
-    ensures unwarned { result ≡ Unwarned → PrintsRepliesAlone (R.remaining input.old) (W.contents output.old) (W.contents output.new) (E.contents errors.old) (E.contents errors.new) }
+    ensures printed { result ≡ Printed → PrintsAll (R.remaining input.old) (W.contents output.old)
+        (W.contents output.new) (E.contents errors.old) (E.contents errors.new) }
+    ensures unwarned { result ≡ Unwarned → PrintsRepliesAlone (R.remaining input.old) (W.contents output.old)
+        (W.contents output.new) (E.contents errors.old) (E.contents errors.new) }
     ensures failed { (error : ScriptError) → FailsWith result error → IsFailure (R.remaining input.old) (W.contents output.old) (W.contents output.new) error }
     ensures untouched { (error : ScriptError) → FailsWith result error → error ≢ OutputFailed → output.new ≡ output.old }
     ensures reported { (error : ScriptError) → result ≡ Reported error → Appends (E.contents errors.old) (E.contents errors.new) (error_line error) }

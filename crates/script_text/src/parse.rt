@@ -10,7 +10,9 @@ ghost use Rattle.iox2_machine.specs.declared.backpressure.BackpressureStrategy.{
 ghost use Rattle.iox2_machine.specs.declared.service_config.ServiceConfig.{ServiceConfig};
 ghost use Rattle.iox2_commands.specs.declared.command.Command.{Command};
 ghost use Rattle.iox2_commands.specs.declared.new_publisher.NewPublisher.{NewPublisher};
-ghost use Rattle.script_text.specs.Commands.{IsAllocation, IsCommandLine, IsDegradation, IsDomainLine, IsHandler, IsKind, IsMode, IsPublisherLine, IsSizeOrMost, IsStrategy, NamesCommand, NamesDomain, SaysChannels};
+ghost use Rattle.script_text.specs.Commands.{IsAllocation, IsCommandLine, IsDegradation, IsDomainLine, IsHandler};
+ghost use Rattle.script_text.specs.Commands.{IsKind, IsMode, IsPublisherLine, IsSizeOrMost, IsStrategy};
+ghost use Rattle.script_text.specs.Commands.{NamesCommand, NamesDomain, SaysChannels};
 ghost use Rattle.script_text.specs.Calls.{IsCall, IsCallWith, IsCallWithThree, IsCallWithTwo};
 ghost use Rattle.script_text.specs.Numbers.{IsId, IsNumber, position_of, value_of};
 ghost use Rattle.script_text.specs.ScriptText.{IsRefused, IsScript};

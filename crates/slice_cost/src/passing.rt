@@ -1,6 +1,8 @@
 //! Slices pass, each of whose elements is one value.
 ghost use Rattle.std.specs.Prelude.{◌≡◌, IfSome};
-ghost use Rattle.iox2_pubsub.specs.Live.{IsLivePublisher, IsLiveSubscriber, IsNewIn, NeverWaitsUnwritten, IsWrittenLoan, Stays, StaysBut, unwritten_key, unwritten_loan, written_key, written_loan};
+ghost use Rattle.iox2_pubsub.specs.Live.{IsLivePublisher, IsLiveSubscriber, IsNewIn, NeverWaitsUnwritten};
+ghost use Rattle.iox2_pubsub.specs.Live.{IsWrittenLoan, Stays, StaysBut, unwritten_key, unwritten_loan, written_key};
+ghost use Rattle.iox2_pubsub.specs.Live.{written_loan};
 ghost use Rattle.slice_passing.specs.Slices.{PassesSlices};
 ghost use Rattle.iox2_pubsub.specs.Handles.{as_publisher, as_subscriber, as_unwritten, as_written};
 

@@ -16,7 +16,9 @@ pub fn send_until_full(
     readings: &[u32],
 ) -> Result<Option<BlockedSend>, Failure>
     requires publisher { CanSendReading domain.old publisher.now }
-    ensures waits { IfOk result (λ waiting. IfSome waiting (λ it. IsBlockedSend domain.new it × (lender_key (blocked_key it) ≡ publisher_key publisher.now) × (blocked_item it ≡ A_blocked_send publisher.now.id))) }
+    ensures waits { IfOk result (λ waiting. IfSome waiting
+        (λ it. IsBlockedSend domain.new it × (lender_key (blocked_key it) ≡ publisher_key publisher.now)
+        × (blocked_item it ≡ A_blocked_send publisher.now.id))) }
     ensures sent { MatchResult result (λ waiting. IfNone waiting (Stays domain.old domain.new)) (λ _. Stays domain.old domain.new) }
     ensures stays { StaysBut (A_blocked_send publisher.now.id) domain.old domain.new }
 {

@@ -2,7 +2,9 @@
 //! user header.
 ghost use Rattle.std.specs.Prelude.{◌≡◌, ℕ, List, MatchResult};
 ghost use Rattle.iox2_pubsub.specs.Leaves.{LeavesBut};
-ghost use Rattle.iox2_pubsub.specs.Live.{AreApart, IsLiveSample, NeverWaitsUnwritten, IsWrittenLoan, LoanHasUserHeader, unwritten_key, unwritten_loan, written_key, written_loan};
+ghost use Rattle.iox2_pubsub.specs.Live.{AreApart, IsLiveSample, NeverWaitsUnwritten, IsWrittenLoan};
+ghost use Rattle.iox2_pubsub.specs.Live.{LoanHasUserHeader, unwritten_key, unwritten_loan, written_key};
+ghost use Rattle.iox2_pubsub.specs.Live.{written_loan};
 ghost use Rattle.iox2_pubsub.specs.Slices.{HasValues, IsSliced};
 ghost use Rattle.iox2_pubsub.specs.Handles.{as_unwritten, as_written, written_number};
 ghost use Rattle.thermometer.specs.Changes.{ChangesLoan, SensorStays};
@@ -22,7 +24,8 @@ pub fn write_batch(
         (λ batch. IsWrittenLoan domain.new (as_written batch) × HasValues domain.new (written_number (as_written batch)) temperatures.now)
         (λ loan. NeverWaitsUnwritten domain.new (as_unwritten loan)) }
     ensures sensor { (sensor : ℕ) → LoanHasUserHeader domain.old (unwritten_key (as_unwritten loan)) sensor
-        → MatchResult result (λ batch. LoanHasUserHeader domain.new (written_key (as_written batch)) sensor) (λ loan. LoanHasUserHeader domain.new (unwritten_key (as_unwritten loan)) sensor) }
+        → MatchResult result (λ batch. LoanHasUserHeader domain.new (written_key (as_written batch)) sensor)
+        (λ loan. LoanHasUserHeader domain.new (unwritten_key (as_unwritten loan)) sensor) }
     ensures leaves { LeavesBut (unwritten_loan (as_unwritten loan)) domain.old domain.new }
 {
     if loan.payload(domain).len() != temperatures.len() {
@@ -64,7 +67,8 @@ pub fn correct_first(domain: &mut Domain<u32, u32>, batch: &mut SampleMut, celsi
 pub fn label_batch(domain: &mut Domain<u32, u32>, batch: &mut SampleMut, sensor: u32)
     requires { IsWrittenLoan domain.old (as_written batch.old) }
     ensures changes { ChangesLoan domain.old domain.new (as_written batch.old) (as_written batch.new) }
-    ensures reads { (temperatures : List ℕ) → HasValues domain.old (written_number (as_written batch.old)) temperatures → HasValues domain.new (written_number (as_written batch.new)) temperatures }
+    ensures reads { (temperatures : List ℕ) → HasValues domain.old (written_number (as_written batch.old))
+        temperatures → HasValues domain.new (written_number (as_written batch.new)) temperatures }
     ensures sensor { LoanHasUserHeader domain.new (written_key (as_written batch.new)) sensor }
 {
     *SampleMut::user_header_mut(domain, batch) = sensor;

@@ -1,5 +1,6 @@
 //! Readings go from the thermometer to the display.
-ghost use Rattle.iox2_pubsub.specs.Live.{AreAll, AreApart, Both, IsLiveSubscriber, IsSingleValued, NeverWaitsUnwritten, Stays, StaysBut, payloads, unwritten_loan, waiting};
+ghost use Rattle.iox2_pubsub.specs.Live.{AreAll, AreApart, Both, IsLiveSubscriber, IsSingleValued};
+ghost use Rattle.iox2_pubsub.specs.Live.{NeverWaitsUnwritten, Stays, StaysBut, payloads, unwritten_loan, waiting};
 ghost use Rattle.std.specs.Prelude.{◌≡◌, ℕ, IfOk, IfSome};
 ghost use Rattle.iox2_pubsub.specs.declared.subscriber.Subscriber.{Subscriber as SubscriberHandle};
 ghost use Rattle.thermometer.specs.Ports.{CanMeasure, HasPorts};
@@ -123,7 +124,8 @@ fn show(
 ) -> Result<Option<u32>, Failure>
     requires single_valued { IsSingleValued domain.old }
     requires subscriber { IsLiveSubscriber domain.old subscriber.now }
-    ensures waited { (celsius : ℕ) → AreAll (payloads domain.old subscriber.now) (record { celsius = celsius }) → IfOk result (λ shown. IfSome shown (λ it. it ≡ celsius)) }
+    ensures waited { (celsius : ℕ) → AreAll (payloads domain.old subscriber.now) (record { celsius = celsius })
+        → IfOk result (λ shown. IfSome shown (λ it. it ≡ celsius)) }
     ensures stays { Stays domain.old domain.new }
 {
     let Some(sample) = subscriber.receive(domain)? else {

@@ -92,7 +92,8 @@ fn pass_copied(
     subscriber: &Subscriber,
 ) -> Result<Option<usize>, Failure>
     requires ports { PassesSeries domain.old (as_publisher publisher.now) (as_subscriber subscriber.now) }
-    ensures same { (domain.old.config).history_size ≡ 0 → waiting domain.old (as_subscriber subscriber.now) ≡ 0 → IfOk result (λ length. IfSome length (λ it. it ≡ 3)) }
+    ensures same { (domain.old.config).history_size ≡ 0 → waiting domain.old (as_subscriber subscriber.now) ≡ 0
+        → IfOk result (λ length. IfSome length (λ it. it ≡ 3)) }
     ensures stays { Stays domain.old domain.new }
 {
     send_copied(domain, publisher)?;
@@ -120,7 +121,8 @@ fn receive_length(
 ) -> Result<Option<usize>, Failure>
     requires series { HasSeries domain.old }
     requires subscriber { IsLiveSubscriber domain.old (as_subscriber subscriber.now) }
-    ensures waited { (values : List ℕ) → AreAllSlices (payloads domain.old (as_subscriber subscriber.now)) values → IfOk result (λ shown. IfSome shown (λ it. it ≡ length values)) }
+    ensures waited { (values : List ℕ) → AreAllSlices (payloads domain.old (as_subscriber subscriber.now)) values
+        → IfOk result (λ shown. IfSome shown (λ it. it ≡ length values)) }
     ensures stays { Stays domain.old domain.new }
 {
     let Some(sample) = subscriber.receive(domain)? else {

@@ -3,7 +3,9 @@
 ghost use Rattle.std.specs.Prelude.{◌≡◌, ℕ, suc, IfOk, IfSome, OnOk, OnSome};
 ghost use Rattle.iox2_pubsub.specs.Leaves.{LeavesBut};
 ghost use Rattle.iox2_pubsub.specs.declared.Header.{Header};
-ghost use Rattle.iox2_pubsub.specs.Live.{AreAll, IsLiveSubscriber, IsSingleValued, NeverWaitsUnwritten, IsUpToDate, IsWrittenLoan, LoanHasHeader, LoanHasUserHeader, LoanReads, payloads, unwritten_key, unwritten_loan, waiting, written_key};
+ghost use Rattle.iox2_pubsub.specs.Live.{AreAll, IsLiveSubscriber, IsSingleValued, NeverWaitsUnwritten, IsUpToDate};
+ghost use Rattle.iox2_pubsub.specs.Live.{IsWrittenLoan, LoanHasHeader, LoanHasUserHeader, LoanReads, payloads};
+ghost use Rattle.iox2_pubsub.specs.Live.{unwritten_key, unwritten_loan, waiting, written_key};
 ghost use Rattle.thermometer.specs.Changes.{ChangesLoan, SensorStays};
 
 use crate::failure::Failure;
@@ -35,7 +37,8 @@ pub fn replace_and_receive(
     requires message { IsWrittenLoan domain.old message.old }
     requires display { IsLiveSubscriber domain.old display.now }
     requires up_to_date { IsUpToDate domain.old display.now }
-    ensures waited { (reading : ℕ) → AreAll (payloads domain.old display.now) (record { celsius = reading }) → IfOk result (λ received. IfSome received (λ it. it ≡ reading)) }
+    ensures waited { (reading : ℕ) → AreAll (payloads domain.old display.now) (record { celsius = reading })
+        → IfOk result (λ received. IfSome received (λ it. it ≡ reading)) }
     ensures one_fewer { IfOk result (λ received. OnSome received (suc (waiting domain.new display.now) ≡ waiting domain.old display.now)) }
     ensures up_to_date { OnOk result (IsUpToDate domain.new display.now) }
     ensures sensor { SensorStays domain.old domain.new (written_key message.old) (written_key message.new) }
@@ -55,7 +58,8 @@ pub fn replace_and_receive(
 pub fn label(domain: &mut Domain<Reading, u32>, message: &mut SampleMut, sensor: u32)
     requires message { IsWrittenLoan domain.old message.old }
     ensures changes { ChangesLoan domain.old domain.new message.old message.new }
-    ensures reads { (celsius : ℕ) → LoanReads domain.old message.old (record { celsius = celsius }) → LoanReads domain.new message.new (record { celsius = celsius }) }
+    ensures reads { (celsius : ℕ) → LoanReads domain.old message.old (record { celsius = celsius })
+        → LoanReads domain.new message.new (record { celsius = celsius }) }
     ensures header { (header : Header) → LoanHasHeader domain.old (written_key message.old) header → LoanHasHeader domain.new (written_key message.new) header }
     ensures sensor { LoanHasUserHeader domain.new (written_key message.new) sensor }
 {

@@ -79,7 +79,8 @@ fn vote_if_idle(
     requires first { CanPassOn domain.old first.now subscriber.now }
     requires second { CanPassOn domain.old second.now subscriber.now }
     requires third { CanPassOn domain.old third.now subscriber.now }
-    requires apart { (publisher_id second.now ≢ publisher_id third.now) × (publisher_id first.now ≢ publisher_id third.now) × (publisher_id first.now ≢ publisher_id second.now) }
+    requires apart { (publisher_id second.now ≢ publisher_id third.now)
+        × (publisher_id first.now ≢ publisher_id third.now) × (publisher_id first.now ≢ publisher_id second.now) }
     ensures middle { IfOk result (λ it. IsMiddle it readings.0 readings.1 readings.2) }
     ensures stays { Stays domain.old domain.new }
 {

@@ -143,7 +143,13 @@ impl Recorder {
     fn end_call(&mut self, start: usize)
         requires { start ≤ length self.old.commands }
         ensures whole { self.old.missed ≡ 0 → self.new ≡ self.old }
-        ensures cut { self.old.missed ≢ 0 → (self.new.missed ≡ with_missed self.old.missed (length self.old.commands - start)) × (self.new ≡ record (self.old) { commands = take start self.old.commands; replies = take start self.old.replies; missed = self.new.missed }) }
+        ensures cut { self.old.missed ≢ 0 → (self.new.missed
+            ≡ with_missed self.old.missed (length self.old.commands - start))
+            × (self.new ≡ record (self.old) {
+              commands = take start self.old.commands;
+              replies = take start self.old.replies;
+              missed = self.new.missed;
+            }) }
     {
         if self.missed > 0 {
             self.cut(start);
@@ -154,7 +160,11 @@ impl Recorder {
     fn cut(&mut self, start: usize)
         requires { start ≤ length self.old.commands }
         ensures missed { self.new.missed ≡ with_missed self.old.missed (length self.old.commands - start) }
-        ensures cut { self.new ≡ record (self.old) { commands = take start self.old.commands; replies = take start self.old.replies; missed = self.new.missed } }
+        ensures cut { self.new ≡ record (self.old) {
+          commands = take start self.old.commands;
+          replies = take start self.old.replies;
+          missed = self.new.missed;
+        } }
     {
         let count = self.commands.len() - start;
         self.commands.truncate(start);

@@ -27,7 +27,8 @@ type Factory = PortFactoryPublisher<NoHandler, NoHandler>;
 /// Makes a publisher, as the settings say.
 pub fn create(service: &mut Service, out: &mut PublisherNumbers) -> u32
     ensures creates { result ≡ 0 → CreatesPublisher service.old.domain service.new.domain (plain_publisher_settings service.old) (Ok (wide (out.new).id)) }
-    ensures errors { 0 < result → (error : PublisherCreateError) × (result ≡ publisher_code error) × CreatesPublisher service.old.domain service.new.domain (plain_publisher_settings service.old) (Err error) }
+    ensures errors { 0 < result → (error : PublisherCreateError) × (result ≡ publisher_code error)
+        × CreatesPublisher service.old.domain service.new.domain (plain_publisher_settings service.old) (Err error) }
     ensures ready { result ≡ 0 → IsReadyKey service.new.domain (named_publisher out.new) }
     ensures new { result ≡ 0 → IsNewIn service.old.domain (A_publisher (wide (out.new).id)) }
     ensures reads { result ≡ 0 → ReadsSettings out.new (plain_publisher_settings service.old) }
@@ -124,10 +125,16 @@ pub fn create_with(
     options: &PublisherOptions,
     out: &mut PublisherNumbers,
 ) -> u32
-    ensures creates { result ≡ 0 → CreatesPublisher service.old.domain service.new.domain (settings_of_options (service.old.domain).config options.now) (Ok (wide (out.new).id)) }
-    ensures errors { 0 < result → result < first_setting_code → (error : PublisherCreateError) × (result ≡ publisher_code error) × CreatesPublisher service.old.domain service.new.domain (settings_of_options (service.old.domain).config options.now) (Err error) }
+    ensures creates { result ≡ 0 → CreatesPublisher service.old.domain service.new.domain
+        (settings_of_options (service.old.domain).config options.now) (Ok (wide (out.new).id)) }
+    ensures errors { 0 < result → result < first_setting_code → (error : PublisherCreateError)
+        × (result ≡ publisher_code error)
+        × CreatesPublisher service.old.domain service.new.domain
+        (settings_of_options (service.old.domain).config options.now) (Err error) }
     ensures valid { result < first_setting_code → invalid_publisher_option service.old.payload_alignment options.now ≡ 0 }
-    ensures invalid { first_setting_code ≤ result → (result ≡ invalid_publisher_option service.old.payload_alignment options.now) × (service.new ≡ service.old) }
+    ensures invalid { first_setting_code ≤ result
+        → (result ≡ invalid_publisher_option service.old.payload_alignment options.now)
+        × (service.new ≡ service.old) }
     ensures ready { result ≡ 0 → IsReadyKey service.new.domain (named_publisher out.new) }
     ensures new { result ≡ 0 → IsNewIn service.old.domain (A_publisher (wide (out.new).id)) }
     ensures reads { result ≡ 0 → ReadsSettings out.new (settings_of_options (service.old.domain).config options.now) }

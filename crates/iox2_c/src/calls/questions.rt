@@ -32,7 +32,9 @@ use std::alloc::Global;
 /// Makes and removes a publisher's connections.
 pub fn update_publisher(service: &mut Service, numbers: &PublisherNumbers) -> u32
     ensures code { result ≡ 1 → ⊥ }
-    ensures updates { (result ≡ 0) ⊎ (10 ≤ result) → (updated : Result (Unit {0}) ConnectionFailure) × (result ≡ code_of failure_code updated) × PublisherUpdates service.old.domain service.new.domain (wide (numbers.now).id) updated }
+    ensures updates { (result ≡ 0) ⊎ (10 ≤ result) → (updated : Result (Unit {0}) ConnectionFailure)
+        × (result ≡ code_of failure_code updated)
+        × PublisherUpdates service.old.domain service.new.domain (wide (numbers.now).id) updated }
     ensures why { 1 < result → result < 10 → RefusesPublisher service.old.domain (named_publisher numbers.now) result × (service.new ≡ service.old) }
     ensures stays { ServesBut No_item service.old service.new }
 {
@@ -51,7 +53,9 @@ pub fn update_publisher(service: &mut Service, numbers: &PublisherNumbers) -> u3
 /// Makes and removes a subscriber's connections.
 pub fn update_subscriber(service: &mut Service, numbers: &SubscriberNumbers) -> u32
     ensures code { result ≡ 1 → ⊥ }
-    ensures updates { (result ≡ 2 → ⊥) → (updated : Result (Unit {0}) ConnectionFailure) × (result ≡ code_of failure_code updated) × SubscriberUpdates service.old.domain service.new.domain (wide (numbers.now).id) updated }
+    ensures updates { (result ≡ 2 → ⊥) → (updated : Result (Unit {0}) ConnectionFailure)
+        × (result ≡ code_of failure_code updated)
+        × SubscriberUpdates service.old.domain service.new.domain (wide (numbers.now).id) updated }
     ensures not_live { result ≡ 2 → (IsSubscriberKey service.old.domain (named_subscriber numbers.now) → ⊥) × (service.new ≡ service.old) }
     ensures stays { ServesBut No_item service.old service.new }
 {
@@ -67,7 +71,9 @@ pub fn update_subscriber(service: &mut Service, numbers: &SubscriberNumbers) -> 
 /// Whether a message waits for a subscriber, after an update.
 pub fn has_samples(service: &mut Service, numbers: &SubscriberNumbers, waits: &mut u32) -> u32
     ensures code { result ≡ 1 → ⊥ }
-    ensures answers { (result ≡ 2 → ⊥) → (answer : Result Bool ConnectionFailure) × (result ≡ code_of failure_code answer) × IfOk answer (λ some_wait. waits.new ≡ cond some_wait 1 0) × Asks service.old.domain service.new.domain (wide (numbers.now).id) answer }
+    ensures answers { (result ≡ 2 → ⊥) → (answer : Result Bool ConnectionFailure)
+        × (result ≡ code_of failure_code answer) × IfOk answer (λ some_wait. waits.new ≡ cond some_wait 1 0)
+        × Asks service.old.domain service.new.domain (wide (numbers.now).id) answer }
     ensures not_live { result ≡ 2 → (IsSubscriberKey service.old.domain (named_subscriber numbers.now) → ⊥) × (service.new ≡ service.old) }
     ensures same { 0 < result → waits.new ≡ waits.old }
     ensures stays { ServesBut No_item service.old service.new }
@@ -138,7 +144,8 @@ pub fn is_blocked(service: &Service, numbers: &PublisherNumbers, out: &mut u32) 
 /// One of the domain's last warnings, the oldest first.
 pub fn warning(service: &Service, index: usize, out: &mut WarningNumbers) -> u32
     ensures code { (result ≡ 0) ⊎ ((result ≡ 2) × (slice_get (buffer (service.now.domain.warnings).latest warning_limit).items index ≡ None)) }
-    ensures reads { result ≡ 0 → IfSome (slice_get (buffer (service.now.domain.warnings).latest warning_limit).items index) (λ warning. TellsOf warning out.new) }
+    ensures reads { result ≡ 0 → IfSome (slice_get (buffer (service.now.domain.warnings).latest warning_limit).items
+        index) (λ warning. TellsOf warning out.new) }
     ensures same { 0 < result → out.new ≡ out.old }
 {
     match service.domain.warnings().get(index) {

@@ -170,7 +170,9 @@ pub fn send_copy(
     blocked: &mut LoanNumbers,
 ) -> u32
     ensures code { result ≡ 1 → ⊥ }
-    ensures sent { result ≢ 2 → result ≢ 7 → (outcome : Result SendOutcome SendError) × (result ≡ sent_code outcome) × (receivers.new ≡ receivers_of receivers.old outcome) × SendsBytes service.old.domain service.new.domain (wide (numbers.now).id) bytes.now outcome }
+    ensures sent { result ≢ 2 → result ≢ 7 → (outcome : Result SendOutcome SendError) × (result ≡ sent_code outcome)
+        × (receivers.new ≡ receivers_of receivers.old outcome)
+        × SendsBytes service.old.domain service.new.domain (wide (numbers.now).id) bytes.now outcome }
     ensures why { (result ≡ 2) ⊎ (result ≡ 7) → RefusesPublisher service.old.domain (named_publisher numbers.now) result × (service.new ≡ service.old) }
     ensures waits { result ≡ 6 → IsBlockedKey service.new.domain (named_loan blocked.new) }
     ensures same { result ≢ 6 → blocked.new ≡ blocked.old }
@@ -222,7 +224,8 @@ pub fn retry(
     receivers: &mut usize,
 ) -> u32
     ensures code { result ≡ 1 → ⊥ }
-    ensures ends { (result ≡ 2 → ⊥) → (outcome : Result SendOutcome SendError) × (result ≡ sent_code outcome) × (receivers.new ≡ receivers_of receivers.old outcome)
+    ensures ends { (result ≡ 2 → ⊥) → (outcome : Result SendOutcome SendError) × (result ≡ sent_code outcome)
+        × (receivers.new ≡ receivers_of receivers.old outcome)
         × BlockedSendRetries service.old.domain service.new.domain (wide (numbers.now).publisher) elapsed outcome }
     ensures not_live { result ≡ 2 → (IsBlockedKey service.old.domain (named_loan numbers.now) → ⊥) × (service.new ≡ service.old) }
     ensures same_count { result ≡ 2 → receivers.new ≡ receivers.old }
@@ -247,7 +250,8 @@ pub fn retry(
 /// Gives up the subscriber for which a send waits.
 pub fn give_up(service: &mut Service, numbers: &LoanNumbers, receivers: &mut usize) -> u32
     ensures code { result ≡ 1 → ⊥ }
-    ensures ends { (result ≡ 2 → ⊥) → (outcome : Result SendOutcome SendError) × (result ≡ sent_code outcome) × (receivers.new ≡ receivers_of receivers.old outcome)
+    ensures ends { (result ≡ 2 → ⊥) → (outcome : Result SendOutcome SendError) × (result ≡ sent_code outcome)
+        × (receivers.new ≡ receivers_of receivers.old outcome)
         × BlockedSendGivesUp service.old.domain service.new.domain (wide (numbers.now).publisher) outcome }
     ensures not_live { result ≡ 2 → (IsBlockedKey service.old.domain (named_loan numbers.now) → ⊥) × (service.new ≡ service.old) }
     ensures same_count { result ≡ 2 → receivers.new ≡ receivers.old }

@@ -6,7 +6,8 @@ ghost use Rattle.iox2_machine.specs.declared.key.Key.{Key};
 ghost use Rattle.iox2_machine.specs.machine.Receives.{Got_sample, No_sample, Receive_error};
 ghost use Rattle.iox2_pubsub.specs.Handles.{as_subscriber, buffer_size_of, origin_of, receiver_of, subscriber_id};
 ghost use Rattle.iox2_pubsub.specs.Slices.{SampleHasValues};
-ghost use Rattle.iox2_pubsub.specs.Live.{A_sample, A_subscriber, IsLiveSample, IsLiveSubscriber, IsNewIn, IsSampleKey, IsSubscriberKey, No_item, sample_key, subscriber_key};
+ghost use Rattle.iox2_pubsub.specs.Live.{A_sample, A_subscriber, IsLiveSample, IsLiveSubscriber, IsNewIn};
+ghost use Rattle.iox2_pubsub.specs.Live.{IsSampleKey, IsSubscriberKey, No_item, sample_key, subscriber_key};
 ghost use Rattle.iox2_c.specs.Codes.{code_of, first_setting_code, receive_code, subscriber_code};
 ghost use Rattle.iox2_c.specs.Numbers.{named_sample, named_subscriber, wide};
 ghost use Rattle.iox2_c.specs.Returns.{ReceiveReturns};
@@ -29,7 +30,8 @@ use iox2_pubsub::{ReceiveError, SubscriberCreateError};
 /// Makes a subscriber, as the settings say.
 pub fn create(service: &mut Service, out: &mut SubscriberNumbers) -> u32
     ensures creates { result ≡ 0 → CreatesSubscriber service.old.domain service.new.domain (plain_subscriber_settings service.old) (Ok out.new) }
-    ensures errors { 0 < result → (error : SubscriberCreateError) × (result ≡ subscriber_code error) × CreatesSubscriber service.old.domain service.new.domain (plain_subscriber_settings service.old) (Err error) }
+    ensures errors { 0 < result → (error : SubscriberCreateError) × (result ≡ subscriber_code error)
+        × CreatesSubscriber service.old.domain service.new.domain (plain_subscriber_settings service.old) (Err error) }
     ensures live { result ≡ 0 → IsSubscriberKey service.new.domain (named_subscriber out.new) }
     ensures new { result ≡ 0 → IsNewIn service.old.domain (A_subscriber (wide (out.new).id)) }
     ensures same { 0 < result → out.new ≡ out.old }
@@ -78,7 +80,9 @@ pub fn create_with(
     out: &mut SubscriberNumbers,
 ) -> u32
     ensures creates { result ≡ 0 → CreatesSubscriber service.old.domain service.new.domain (subscriber_settings options.now) (Ok out.new) }
-    ensures errors { 0 < result → result < first_setting_code → (error : SubscriberCreateError) × (result ≡ subscriber_code error) × CreatesSubscriber service.old.domain service.new.domain (subscriber_settings options.now) (Err error) }
+    ensures errors { 0 < result → result < first_setting_code → (error : SubscriberCreateError)
+        × (result ≡ subscriber_code error)
+        × CreatesSubscriber service.old.domain service.new.domain (subscriber_settings options.now) (Err error) }
     ensures valid { result < first_setting_code → invalid_subscriber_option options.now ≡ 0 }
     ensures invalid { first_setting_code ≤ result → (result ≡ invalid_subscriber_option options.now) × (service.new ≡ service.old) }
     ensures live { result ≡ 0 → IsSubscriberKey service.new.domain (named_subscriber out.new) }
@@ -284,15 +288,18 @@ pub fn receive_copy(
     out: &mut SampleNumbers,
 ) -> u32
     ensures code { result ≡ 1 → ⊥ }
-    ensures copied { result ≡ 0 → (key : Key) × (key.port ≡ wide (numbers.now).id) × (origin : ℕ) × ReceivesCopy service.old.domain service.new.domain key origin (take len.new bytes.new) }
+    ensures copied { result ≡ 0 → (key : Key) × (key.port ≡ wide (numbers.now).id) × (origin : ℕ)
+        × ReceivesCopy service.old.domain service.new.domain key origin (take len.new bytes.new) }
     ensures fits { result ≡ 0 → len.new ≤ length bytes.old }
-    ensures kept { result ≡ 9 → SubscriberReceives service.old.domain service.new.domain (wide (numbers.now).id) (Got_sample (wide (out.new).origin) (wide (out.new).number)) }
+    ensures kept { result ≡ 9 → SubscriberReceives service.old.domain service.new.domain (wide (numbers.now).id)
+        (Got_sample (wide (out.new).origin) (wide (out.new).number)) }
     ensures live { result ≡ 9 → IsSampleKey service.new.domain (named_sample out.new) }
     ensures new { result ≡ 9 → IsNewIn service.old.domain (A_sample (wide (out.new).subscriber) (wide (out.new).number)) }
     ensures small { result ≡ 9 → length bytes.old < len.new }
     ensures length { result ≡ 9 → (values : List ℕ) → SampleHasValues service.new.domain (named_sample out.new) values → len.new ≡ length values }
     ensures nothing { result ≡ 3 → SubscriberReceives service.old.domain service.new.domain (wide (numbers.now).id) No_sample }
-    ensures errors { 3 < result → result ≢ 9 → (error : ReceiveError) × (result ≡ receive_code error) × SubscriberReceives service.old.domain service.new.domain (wide (numbers.now).id) (Receive_error error) }
+    ensures errors { 3 < result → result ≢ 9 → (error : ReceiveError) × (result ≡ receive_code error)
+        × SubscriberReceives service.old.domain service.new.domain (wide (numbers.now).id) (Receive_error error) }
     ensures not_live { result ≡ 2 → (IsSubscriberKey service.old.domain (named_subscriber numbers.now) → ⊥) × (service.new ≡ service.old) }
     ensures same { 0 < result → bytes.new ≡ bytes.old }
     ensures same_numbers { result ≢ 9 → out.new ≡ out.old }

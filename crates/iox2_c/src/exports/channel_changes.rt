@@ -20,7 +20,8 @@ pub extern "C" fn iox2ps_subscriber_set_channel_state(
     were_closed: &mut u32,
 ) -> u32
     ensures no_domain { (result ≡ 1) ↔ (domain.old.service ≡ None) }
-    ensures sets { result ≡ 0 → Becomes (λ old new. SetsState old new (wide (subscriber.now).id) channel state were_closed.new) domain.old.service domain.new.service }
+    ensures sets { result ≡ 0 → Becomes (λ old new. SetsState old new (wide (subscriber.now).id) channel state
+        were_closed.new) domain.old.service domain.new.service }
     ensures live { result ≡ 0 → Knows (λ kept. IsSubscriberKey kept (named_subscriber subscriber.now)) domain.old.service }
     ensures why { 1 < result → Knows (λ kept. RefusesSubscriberChannel kept (named_subscriber subscriber.now) channel result) domain.old.service }
     ensures refused { 0 < result → domain.new.service ≡ domain.old.service }
@@ -48,7 +49,8 @@ pub extern "C" fn iox2ps_subscriber_close_channel(
     expected: u64,
 ) -> u32
     ensures no_domain { (result ≡ 1) ↔ (domain.old.service ≡ None) }
-    ensures closes { result ≡ 0 → Becomes (λ old new. ClosesReceived old new (wide (subscriber.now).id) channel expected) domain.old.service domain.new.service }
+    ensures closes { result ≡ 0 → Becomes (λ old new. ClosesReceived old new (wide (subscriber.now).id) channel
+        expected) domain.old.service domain.new.service }
     ensures live { result ≡ 0 → Knows (λ kept. IsSubscriberKey kept (named_subscriber subscriber.now)) domain.old.service }
     ensures why { 1 < result → Knows (λ kept. RefusesSubscriberChannel kept (named_subscriber subscriber.now) channel result) domain.old.service }
     ensures refused { 0 < result → domain.new.service ≡ domain.old.service }
@@ -103,7 +105,8 @@ pub extern "C" fn iox2ps_publisher_close_channel(
     expected: u64,
 ) -> u32
     ensures no_domain { (result ≡ 1) ↔ (domain.old.service ≡ None) }
-    ensures closes { result ≡ 0 → Becomes (λ old new. ClosesSent old new (wide (publisher.now).id) channel connection expected) domain.old.service domain.new.service }
+    ensures closes { result ≡ 0 → Becomes (λ old new. ClosesSent old new (wide (publisher.now).id) channel connection
+        expected) domain.old.service domain.new.service }
     ensures live { result ≡ 0 → Knows (λ kept. IsPublisherKey kept (named_publisher publisher.now)) domain.old.service }
     ensures why { 1 < result → Knows (λ kept. RefusesPublisherChannel kept (named_publisher publisher.now) channel result) domain.old.service }
     ensures refused { 0 < result → domain.new.service ≡ domain.old.service }

@@ -21,7 +21,8 @@ pub extern "C" fn iox2ps_subscriber_at_least_one_channel_has_state(
 ) -> u32
     ensures no_domain { (result ≡ 1) ↔ (domain.old.service ≡ None) }
     ensures code { (result < 3) ⊎ (result ≡ 70) }
-    ensures tells { result ≡ 0 → Knows (λ kept. IsSubscriberKey kept (named_subscriber subscriber.now) × TellsSomeState kept (wide (subscriber.now).id) channel state has_state.new) domain.old.service }
+    ensures tells { result ≡ 0 → Knows (λ kept. IsSubscriberKey kept (named_subscriber subscriber.now)
+        × TellsSomeState kept (wide (subscriber.now).id) channel state has_state.new) domain.old.service }
     ensures why { 1 < result → Knows (λ kept. RefusesSubscriberChannel kept (named_subscriber subscriber.now) channel result) domain.old.service }
     ensures same { 0 < result → has_state.new ≡ has_state.old }
     ensures unchanged { domain.new.service ≡ domain.old.service }
@@ -42,8 +43,11 @@ pub extern "C" fn iox2ps_publisher_get_connection_id_of(
 ) -> u32
     ensures no_domain { (result ≡ 1) ↔ (domain.old.service ≡ None) }
     ensures code { (result < 3) ⊎ (result ≡ 71) }
-    ensures tells { result ≡ 0 → Knows (λ kept. IsPublisherKey kept (named_publisher publisher.now) × TellsConnection kept (wide (publisher.now).id) (wide receiver_port_id.now) (Some connection.new)) domain.old.service }
-    ensures none { result ≡ 71 → Knows (λ kept. IsPublisherKey kept (named_publisher publisher.now) × TellsConnection kept (wide (publisher.now).id) (wide receiver_port_id.now) None) domain.old.service }
+    ensures tells { result ≡ 0 → Knows (λ kept. IsPublisherKey kept (named_publisher publisher.now)
+        × TellsConnection kept (wide (publisher.now).id) (wide receiver_port_id.now) (Some connection.new))
+        domain.old.service }
+    ensures none { result ≡ 71 → Knows (λ kept. IsPublisherKey kept (named_publisher publisher.now)
+        × TellsConnection kept (wide (publisher.now).id) (wide receiver_port_id.now) None) domain.old.service }
     ensures not_live { result ≡ 2 → KnowsNo (λ kept. IsPublisherKey kept (named_publisher publisher.now)) domain.old.service }
     ensures same { 0 < result → connection.new ≡ connection.old }
     ensures unchanged { domain.new.service ≡ domain.old.service }
@@ -66,7 +70,8 @@ pub extern "C" fn iox2ps_publisher_has_channel_state(
 ) -> u32
     ensures no_domain { (result ≡ 1) ↔ (domain.old.service ≡ None) }
     ensures code { (result < 3) ⊎ (result ≡ 70) }
-    ensures tells { result ≡ 0 → Knows (λ kept. IsPublisherKey kept (named_publisher publisher.now) × TellsState kept (wide (publisher.now).id) channel connection state has_state.new) domain.old.service }
+    ensures tells { result ≡ 0 → Knows (λ kept. IsPublisherKey kept (named_publisher publisher.now)
+        × TellsState kept (wide (publisher.now).id) channel connection state has_state.new) domain.old.service }
     ensures why { 1 < result → Knows (λ kept. RefusesPublisherChannel kept (named_publisher publisher.now) channel result) domain.old.service }
     ensures same { 0 < result → has_state.new ≡ has_state.old }
     ensures unchanged { domain.new.service ≡ domain.old.service }
@@ -91,7 +96,8 @@ pub extern "C" fn iox2ps_publisher_has_disconnect_hint(
 ) -> u32
     ensures no_domain { (result ≡ 1) ↔ (domain.old.service ≡ None) }
     ensures code { (result < 3) ⊎ (result ≡ 70) }
-    ensures tells { result ≡ 0 → Knows (λ kept. IsPublisherKey kept (named_publisher publisher.now) × TellsHint kept (wide (publisher.now).id) channel connection state has_hint.new) domain.old.service }
+    ensures tells { result ≡ 0 → Knows (λ kept. IsPublisherKey kept (named_publisher publisher.now)
+        × TellsHint kept (wide (publisher.now).id) channel connection state has_hint.new) domain.old.service }
     ensures why { 1 < result → Knows (λ kept. RefusesPublisherChannel kept (named_publisher publisher.now) channel result) domain.old.service }
     ensures same { 0 < result → has_hint.new ≡ has_hint.old }
     ensures unchanged { domain.new.service ≡ domain.old.service }

@@ -26,7 +26,8 @@ pub extern "C" fn iox2ps_loan_deliver_offset_to_connection_counted(
     blocked: &mut LoanNumbers,
 ) -> u32
     ensures no_domain { (result ≡ 1) ↔ (domain.old.service ≡ None) }
-    ensures sent { result ≢ 1 → (IsRefusal result → ⊥) → (outcome : Result SendOutcome SendError) × (result ≡ sent_code outcome) × (receivers.new ≡ receivers_of receivers.old outcome)
+    ensures sent { result ≢ 1 → (IsRefusal result → ⊥) → (outcome : Result SendOutcome SendError)
+        × (result ≡ sent_code outcome) × (receivers.new ≡ receivers_of receivers.old outcome)
         × Becomes (λ old new. SendsNumberedTo old new (wide (loan.now).number) channel connection outcome) domain.old.service domain.new.service }
     ensures why { IsRefusal result → Knows (λ kept. RefusesSendTo kept (named_loan loan.now) channel result) domain.old.service }
     ensures refused { IsRefusal result → domain.new.service ≡ domain.old.service }

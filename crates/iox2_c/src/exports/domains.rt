@@ -7,7 +7,8 @@ ghost use Rattle.iox2_machine.specs.machine.Ports.{default_publisher_settings, d
 ghost use Rattle.iox2_machine.specs.machine.State.{fresh, no_messages};
 ghost use Rattle.iox2_domain.specs.Shows.{Shows};
 ghost use Rattle.iox2_c.specs.Boxed.{Knows};
-ghost use Rattle.iox2_c.specs.Settings.{config_size, invalid_setting, publisher_options_size, settings_of_options, settings_of, subscriber_options_size, subscriber_settings};
+ghost use Rattle.iox2_c.specs.Settings.{config_size, invalid_setting, publisher_options_size, settings_of_options};
+ghost use Rattle.iox2_c.specs.Settings.{settings_of, subscriber_options_size, subscriber_settings};
 ghost use Rattle.iox2_c.specs.Codes.{first_setting_code, worst_case_too_large};
 
 use crate::calls::questions;
@@ -55,7 +56,9 @@ pub extern "C" fn iox2ps_publisher_options_of_sized(
 )
     ensures known { config.now.struct_size ≡ config_size → struct_size ≡ publisher_options_size → (options.new).struct_size ≡ publisher_options_size }
     ensures settings { config.now.struct_size ≡ config_size → struct_size ≡ publisher_options_size
-        → settings_of_options (settings_of config.now) options.new ≡ record (default_publisher_settings (settings_of config.now)) { initial_max_slice_len = config.now.payload_size } }
+        → settings_of_options (settings_of config.now) options.new
+        ≡ record (default_publisher_settings (settings_of config.now))
+        { initial_max_slice_len = config.now.payload_size } }
     ensures unknown { (config.now.struct_size ≢ config_size) ⊎ (struct_size ≢ publisher_options_size) → options.new ≡ record (options.old) { struct_size = 0 } }
 {
     if config.struct_size == CONFIG_SIZE && struct_size == PUBLISHER_OPTIONS_SIZE {
@@ -74,8 +77,10 @@ pub extern "C" fn iox2ps_subscriber_options_of_sized(
     struct_size: usize,
 )
     ensures known { config.now.struct_size ≡ config_size → struct_size ≡ subscriber_options_size → (options.new).struct_size ≡ subscriber_options_size }
-    ensures settings { config.now.struct_size ≡ config_size → struct_size ≡ subscriber_options_size → subscriber_settings options.new ≡ default_subscriber_settings (settings_of config.now) }
-    ensures unknown { (config.now.struct_size ≢ config_size) ⊎ (struct_size ≢ subscriber_options_size) → options.new ≡ record (options.old) { struct_size = 0 } }
+    ensures settings { config.now.struct_size ≡ config_size → struct_size ≡ subscriber_options_size
+        → subscriber_settings options.new ≡ default_subscriber_settings (settings_of config.now) }
+    ensures unknown { (config.now.struct_size ≢ config_size) ⊎ (struct_size ≢ subscriber_options_size)
+        → options.new ≡ record (options.old) { struct_size = 0 } }
 {
     if config.struct_size == CONFIG_SIZE && struct_size == SUBSCRIBER_OPTIONS_SIZE {
         *options = SubscriberOptions::of(config);
@@ -116,7 +121,8 @@ pub extern "C" fn iox2ps_domain_create(
 ) -> u32
     ensures fresh { result ≡ 0 → Knows (λ kept. Shows kept no_messages (fresh (settings_of config.now))) domain.new.service }
     ensures code { (result ≡ 0) ⊎ (result ≡ 4) ⊎ (result ≡ 5) ⊎ (first_setting_code ≤ result) }
-    ensures sizes { result ≡ 0 → IfSome domain.new.service (λ it. (it.payload_size ≡ config.now.payload_size) × (it.payload_alignment ≡ config.now.payload_alignment)) }
+    ensures sizes { result ≡ 0 → IfSome domain.new.service
+        (λ it. (it.payload_size ≡ config.now.payload_size) × (it.payload_alignment ≡ config.now.payload_alignment)) }
     ensures valid { (result ≡ 0) ⊎ (result ≡ 4) → invalid_setting config.now ≡ 0 }
     ensures there { (result ≡ 5) ↔ (domain.old.service ≢ None) }
     ensures invalid { first_setting_code ≤ result → result ≡ invalid_setting config.now }
@@ -137,7 +143,8 @@ pub extern "C" fn iox2ps_domain_create_recorded(
 ) -> u32
     ensures fresh { result ≡ 0 → Knows (λ kept. Shows kept no_messages (fresh (settings_of config.now))) domain.new.service }
     ensures code { (result ≡ 0) ⊎ (result ≡ 4) ⊎ (result ≡ 5) ⊎ (first_setting_code ≤ result) }
-    ensures sizes { result ≡ 0 → IfSome domain.new.service (λ it. (it.payload_size ≡ config.now.payload_size) × (it.payload_alignment ≡ config.now.payload_alignment)) }
+    ensures sizes { result ≡ 0 → IfSome domain.new.service
+        (λ it. (it.payload_size ≡ config.now.payload_size) × (it.payload_alignment ≡ config.now.payload_alignment)) }
     ensures valid { (result ≡ 0) ⊎ (result ≡ 4) → invalid_setting config.now ≡ 0 }
     ensures there { (result ≡ 5) ↔ (domain.old.service ≢ None) }
     ensures invalid { first_setting_code ≤ result → result ≡ invalid_setting config.now }
@@ -150,7 +157,8 @@ pub extern "C" fn iox2ps_domain_create_recorded(
 fn create(alloc: Global, domain: &mut DomainBox, config: &Config, room: Option<Room>) -> u32
     ensures fresh { result ≡ 0 → Knows (λ kept. Shows kept no_messages (fresh (settings_of config.now))) domain.new.service }
     ensures code { (result ≡ 0) ⊎ (result ≡ 4) ⊎ (result ≡ 5) ⊎ (first_setting_code ≤ result) }
-    ensures sizes { result ≡ 0 → IfSome domain.new.service (λ it. (it.payload_size ≡ config.now.payload_size) × (it.payload_alignment ≡ config.now.payload_alignment)) }
+    ensures sizes { result ≡ 0 → IfSome domain.new.service
+        (λ it. (it.payload_size ≡ config.now.payload_size) × (it.payload_alignment ≡ config.now.payload_alignment)) }
     ensures valid { (result ≡ 0) ⊎ (result ≡ 4) → invalid_setting config.now ≡ 0 }
     ensures there { (result ≡ 5) ↔ (domain.old.service ≢ None) }
     ensures invalid { first_setting_code ≤ result → result ≡ invalid_setting config.now }

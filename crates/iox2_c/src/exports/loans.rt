@@ -40,7 +40,8 @@ pub extern "C" fn iox2ps_loan_payload(
     ensures no_domain { (result ≡ 1) ↔ (domain.old.service ≡ None) }
     ensures out { result ≡ 0 → Knows (λ kept. IsOut kept (named_loan loan.now)) domain.old.service }
     ensures why { 1 < result → Knows (λ kept. IsRefusedLoan kept (named_loan loan.now) result) domain.old.service }
-    ensures length { result ≡ 0 → Knows (λ kept. (values : List ℕ) → HasValues kept (wide (loan.now).number) values → len.new ≡ length values) domain.old.service }
+    ensures length { result ≡ 0 → Knows (λ kept. (values : List ℕ) → HasValues kept (wide (loan.now).number) values
+        → len.new ≡ length values) domain.old.service }
     ensures same { 0 < result → len.new ≡ len.old }
     ensures unchanged { domain.new.service ≡ domain.old.service }
 {

@@ -24,8 +24,13 @@ pub extern "C" fn iox2ps_publisher_create(
     publisher: &mut PublisherNumbers,
 ) -> u32
     ensures no_domain { (result ≡ 1) ↔ (domain.old.service ≡ None) }
-    ensures creates { result ≡ 0 → HoldsFromOldToNew (λ old new. CreatesPublisher old.domain new.domain (plain_publisher_settings old) (Ok (wide (publisher.new).id)) × ReadsSettings publisher.new (plain_publisher_settings old)) domain.old.service domain.new.service }
-    ensures errors { 1 < result → (error : PublisherCreateError) × (result ≡ publisher_code error) × HoldsFromOldToNew (λ old new. CreatesPublisher old.domain new.domain (plain_publisher_settings old) (Err error)) domain.old.service domain.new.service }
+    ensures creates { result ≡ 0 → HoldsFromOldToNew
+        (λ old new. CreatesPublisher old.domain new.domain (plain_publisher_settings old)
+        (Ok (wide (publisher.new).id)) × ReadsSettings publisher.new (plain_publisher_settings old))
+        domain.old.service domain.new.service }
+    ensures errors { 1 < result → (error : PublisherCreateError) × (result ≡ publisher_code error)
+        × HoldsFromOldToNew (λ old new. CreatesPublisher old.domain new.domain (plain_publisher_settings old)
+        (Err error)) domain.old.service domain.new.service }
     ensures ready { result ≡ 0 → Knows (λ kept. IsReadyKey kept (named_publisher publisher.new)) domain.new.service }
     ensures new { result ≡ 0 → Knows (λ kept. IsNewIn kept (A_publisher (wide (publisher.new).id))) domain.old.service }
     ensures same { 0 < result → publisher.new ≡ publisher.old }
@@ -45,9 +50,14 @@ pub extern "C" fn iox2ps_publisher_create_with(
     publisher: &mut PublisherNumbers,
 ) -> u32
     ensures no_domain { (result ≡ 1) ↔ (domain.old.service ≡ None) }
-    ensures creates { result ≡ 0 → HoldsFromOldToNew (λ old new. CreatesPublisher old.domain new.domain (settings_of_options (old.domain).config options.now) (Ok (wide (publisher.new).id)) × ReadsSettings publisher.new (settings_of_options (old.domain).config options.now)) domain.old.service domain.new.service }
+    ensures creates { result ≡ 0 → HoldsFromOldToNew
+        (λ old new. CreatesPublisher old.domain new.domain (settings_of_options (old.domain).config options.now)
+        (Ok (wide (publisher.new).id))
+        × ReadsSettings publisher.new (settings_of_options (old.domain).config options.now)) domain.old.service
+        domain.new.service }
     ensures errors { 1 < result → result < first_setting_code → (error : PublisherCreateError) × (result ≡ publisher_code error)
-        × HoldsFromOldToNew (λ old new. CreatesPublisher old.domain new.domain (settings_of_options (old.domain).config options.now) (Err error)) domain.old.service domain.new.service }
+        × HoldsFromOldToNew (λ old new. CreatesPublisher old.domain new.domain
+        (settings_of_options (old.domain).config options.now) (Err error)) domain.old.service domain.new.service }
     ensures valid { result ≢ 1 → result < first_setting_code → IfSome domain.old.service (λ it. invalid_publisher_option it.payload_alignment options.now ≡ 0) }
     ensures invalid { first_setting_code ≤ result → IfSome domain.old.service (λ it. result ≡ invalid_publisher_option it.payload_alignment options.now) }
     ensures refused { (result ≡ 1) ⊎ (first_setting_code ≤ result) → domain.new.service ≡ domain.old.service }
@@ -93,7 +103,9 @@ pub extern "C" fn iox2ps_publisher_loan(
 ) -> u32
     ensures no_domain { (result ≡ 1) ↔ (domain.old.service ≡ None) }
     ensures lends { result ≡ 0 → Becomes (λ old new. Lends old new (wide (publisher.now).id) len (Ok tt)) domain.old.service domain.new.service }
-    ensures errors { 10 ≤ result → (error : LoanError) × (result ≡ loan_code error) × Becomes (λ old new. Lends old new (wide (publisher.now).id) len (Err error)) domain.old.service domain.new.service }
+    ensures errors { 10 ≤ result → (error : LoanError) × (result ≡ loan_code error)
+        × Becomes (λ old new. Lends old new (wide (publisher.now).id) len (Err error)) domain.old.service
+        domain.new.service }
     ensures why { 1 < result → result < 10 → Knows (λ kept. RefusesPublisher kept (named_publisher publisher.now) result) domain.old.service }
     ensures refused { 0 < result → result < 10 → domain.new.service ≡ domain.old.service }
     ensures out { result ≡ 0 → Knows (λ kept. IsOut kept (named_loan loan.new)) domain.new.service }
@@ -119,7 +131,9 @@ pub extern "C" fn iox2ps_publisher_loan_uninit(
 ) -> u32
     ensures no_domain { (result ≡ 1) ↔ (domain.old.service ≡ None) }
     ensures lends { result ≡ 0 → Becomes (λ old new. LendsUninit old new (wide (publisher.now).id) len (Ok tt)) domain.old.service domain.new.service }
-    ensures errors { 10 ≤ result → (error : LoanError) × (result ≡ loan_code error) × Becomes (λ old new. LendsUninit old new (wide (publisher.now).id) len (Err error)) domain.old.service domain.new.service }
+    ensures errors { 10 ≤ result → (error : LoanError) × (result ≡ loan_code error)
+        × Becomes (λ old new. LendsUninit old new (wide (publisher.now).id) len (Err error)) domain.old.service
+        domain.new.service }
     ensures why { 1 < result → result < 10 → Knows (λ kept. RefusesPublisher kept (named_publisher publisher.now) result) domain.old.service }
     ensures refused { 0 < result → result < 10 → domain.new.service ≡ domain.old.service }
     ensures out { result ≡ 0 → Knows (λ kept. IsOut kept (named_loan loan.new)) domain.new.service }

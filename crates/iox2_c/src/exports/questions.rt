@@ -52,7 +52,10 @@ pub extern "C" fn iox2ps_publisher_update_connections(
     publisher: &PublisherNumbers,
 ) -> u32
     ensures no_domain { (result ≡ 1) ↔ (domain.old.service ≡ None) }
-    ensures updates { (result ≡ 0) ⊎ (10 ≤ result) → (updated : Result (Unit {0}) ConnectionFailure) × (result ≡ code_of failure_code updated) × Becomes (λ old new. PublisherUpdates old new (wide (publisher.now).id) updated) domain.old.service domain.new.service }
+    ensures updates { (result ≡ 0) ⊎ (10 ≤ result) → (updated : Result (Unit {0}) ConnectionFailure)
+        × (result ≡ code_of failure_code updated)
+        × Becomes (λ old new. PublisherUpdates old new (wide (publisher.now).id) updated) domain.old.service
+        domain.new.service }
     ensures why { 1 < result → result < 10 → Knows (λ kept. RefusesPublisher kept (named_publisher publisher.now) result) domain.old.service }
     ensures refused { 0 < result → result < 10 → domain.new.service ≡ domain.old.service }
     ensures stays { HoldsOn No_item domain.old.service domain.new.service }
@@ -70,7 +73,10 @@ pub extern "C" fn iox2ps_subscriber_update_connections(
     subscriber: &SubscriberNumbers,
 ) -> u32
     ensures no_domain { (result ≡ 1) ↔ (domain.old.service ≡ None) }
-    ensures updates { (result ≡ 0) ⊎ (2 < result) → (updated : Result (Unit {0}) ConnectionFailure) × (result ≡ code_of failure_code updated) × Becomes (λ old new. SubscriberUpdates old new (wide (subscriber.now).id) updated) domain.old.service domain.new.service }
+    ensures updates { (result ≡ 0) ⊎ (2 < result) → (updated : Result (Unit {0}) ConnectionFailure)
+        × (result ≡ code_of failure_code updated)
+        × Becomes (λ old new. SubscriberUpdates old new (wide (subscriber.now).id) updated) domain.old.service
+        domain.new.service }
     ensures not_live { result ≡ 2 → KnowsNo (λ kept. IsSubscriberKey kept (named_subscriber subscriber.now)) domain.old.service }
     ensures refused { result ≡ 2 → domain.new.service ≡ domain.old.service }
     ensures stays { HoldsOn No_item domain.old.service domain.new.service }
@@ -89,7 +95,8 @@ pub extern "C" fn iox2ps_subscriber_has_samples(
     waits: &mut u32,
 ) -> u32
     ensures no_domain { (result ≡ 1) ↔ (domain.old.service ≡ None) }
-    ensures answers { (result ≡ 0) ⊎ (2 < result) → (answer : Result Bool ConnectionFailure) × (result ≡ code_of failure_code answer) × IfOk answer (λ some_wait. waits.new ≡ cond some_wait 1 0)
+    ensures answers { (result ≡ 0) ⊎ (2 < result) → (answer : Result Bool ConnectionFailure)
+        × (result ≡ code_of failure_code answer) × IfOk answer (λ some_wait. waits.new ≡ cond some_wait 1 0)
         × Becomes (λ old new. Asks old new (wide (subscriber.now).id) answer) domain.old.service domain.new.service }
     ensures not_live { result ≡ 2 → KnowsNo (λ kept. IsSubscriberKey kept (named_subscriber subscriber.now)) domain.old.service }
     ensures refused { result ≡ 2 → domain.new.service ≡ domain.old.service }
@@ -112,7 +119,8 @@ pub extern "C" fn iox2ps_publisher_is_blocked(
     ensures no_domain { (result ≡ 1) ↔ (domain.old.service ≡ None) }
     ensures code { result < 3 }
     ensures not_live { result ≡ 2 → KnowsNo (λ kept. IsPublisherKey kept (named_publisher publisher.now)) domain.old.service }
-    ensures tells { result ≡ 0 → Knows (λ kept. IsPublisherKey kept (named_publisher publisher.now) × ((is_blocked.new ≡ 0) ↔ IsUnblocked kept (named_publisher publisher.now))) domain.old.service }
+    ensures tells { result ≡ 0 → Knows (λ kept. IsPublisherKey kept (named_publisher publisher.now)
+        × ((is_blocked.new ≡ 0) ↔ IsUnblocked kept (named_publisher publisher.now))) domain.old.service }
     ensures answer { result ≡ 0 → (is_blocked.new ≡ 0) ⊎ (is_blocked.new ≡ 1) }
     ensures same { 0 < result → is_blocked.new ≡ is_blocked.old }
     ensures unchanged { domain.new.service ≡ domain.old.service }
@@ -132,7 +140,9 @@ pub extern "C" fn iox2ps_domain_warning(
 ) -> u32
     ensures no_domain { (result ≡ 1) ↔ (domain.old.service ≡ None) }
     ensures code { result < 3 }
-    ensures reads { result ≡ 0 → Knows (λ kept. IfSome (slice_get (buffer (kept.warnings).latest warning_limit).items index) (λ it. TellsOf it warning.new)) domain.old.service }
+    ensures reads { result ≡ 0 → Knows (λ kept. IfSome
+        (slice_get (buffer (kept.warnings).latest warning_limit).items index) (λ it. TellsOf it warning.new))
+        domain.old.service }
     ensures none { result ≡ 2 → Knows (λ kept. slice_get (buffer (kept.warnings).latest warning_limit).items index ≡ None) domain.old.service }
     ensures same { 0 < result → warning.new ≡ warning.old }
     ensures unchanged { domain.new.service ≡ domain.old.service }
@@ -200,7 +210,9 @@ pub extern "C" fn iox2ps_domain_config_sized(
     ensures unknown { result ≢ 1 → (result ≡ invalid_struct_size) ↔ (struct_size ≢ config_size) }
     ensures known { result ≡ 0 → (config.new).struct_size ≡ config_size }
     ensures reads { result ≡ 0 → Knows (λ kept. settings_of config.new ≡ settings_in kept) domain.old.service }
-    ensures sizes { result ≡ 0 → IfSome domain.old.service (λ it. ((config.new).payload_size ≡ it.payload_size) × ((config.new).payload_alignment ≡ it.payload_alignment)) }
+    ensures sizes { result ≡ 0 → IfSome domain.old.service
+        (λ it. ((config.new).payload_size ≡ it.payload_size)
+        × ((config.new).payload_alignment ≡ it.payload_alignment)) }
     ensures same { 0 < result → config.new ≡ config.old }
     ensures unchanged { domain.new.service ≡ domain.old.service }
 {
@@ -219,7 +231,8 @@ pub extern "C" fn iox2ps_blocked_subscriber(
 ) -> u32
     ensures no_domain { (result ≡ 1) ↔ (domain.old.service ≡ None) }
     ensures code { result < 3 }
-    ensures tells { result ≡ 0 → Knows (λ kept. IsBlockedKey kept (named_loan blocked.now) × TellsBlocker kept (wide (blocked.now).publisher) (wide subscriber.new)) domain.old.service }
+    ensures tells { result ≡ 0 → Knows (λ kept. IsBlockedKey kept (named_loan blocked.now)
+        × TellsBlocker kept (wide (blocked.now).publisher) (wide subscriber.new)) domain.old.service }
     ensures not_live { result ≡ 2 → KnowsNo (λ kept. IsBlockedKey kept (named_loan blocked.now)) domain.old.service }
     ensures same { 0 < result → subscriber.new ≡ subscriber.old }
     ensures unchanged { domain.new.service ≡ domain.old.service }

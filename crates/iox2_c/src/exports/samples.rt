@@ -24,7 +24,8 @@ pub extern "C" fn iox2ps_sample_payload(
     ensures code { result < 3 }
     ensures not_live { result ≡ 2 → KnowsNo (λ kept. IsSampleKey kept (named_sample sample.now)) domain.old.service }
     ensures live { result ≡ 0 → Knows (λ kept. IsSampleKey kept (named_sample sample.now)) domain.old.service }
-    ensures length { result ≡ 0 → Knows (λ kept. (values : List ℕ) → SampleHasValues kept (named_sample sample.now) values → len.new ≡ length values) domain.old.service }
+    ensures length { result ≡ 0 → Knows (λ kept. (values : List ℕ)
+        → SampleHasValues kept (named_sample sample.now) values → len.new ≡ length values) domain.old.service }
     ensures same { 0 < result → len.new ≡ len.old }
     ensures unchanged { domain.new.service ≡ domain.old.service }
 {
@@ -50,7 +51,9 @@ pub extern "C" fn iox2ps_sample_copy(
     ensures fits { result ≡ 0 → len.new ≤ length bytes.old }
     ensures rest { result ≡ 0 → drop len.new bytes.new ≡ drop len.new bytes.old }
     ensures small { result ≡ 9 → length bytes.old < len.new }
-    ensures length { (result ≡ 0) ⊎ (result ≡ 9) → Knows (λ kept. (values : List ℕ) → SampleHasValues kept (named_sample sample.now) values → len.new ≡ length values) domain.old.service }
+    ensures length { (result ≡ 0) ⊎ (result ≡ 9)
+        → Knows (λ kept. (values : List ℕ) → SampleHasValues kept (named_sample sample.now) values
+        → len.new ≡ length values) domain.old.service }
     ensures same { 0 < result → bytes.new ≡ bytes.old }
     ensures same_length { (result ≡ 1) ⊎ (result ≡ 2) → len.new ≡ len.old }
     ensures unchanged { domain.new.service ≡ domain.old.service }
@@ -89,7 +92,8 @@ pub extern "C" fn iox2ps_sample_release(domain: &mut DomainBox, sample: &SampleN
     ensures code { result < 3 }
     ensures not_live { result ≡ 2 → KnowsNo (λ kept. IsSampleKey kept (named_sample sample.now)) domain.old.service }
     ensures live { result ≡ 0 → Knows (λ kept. IsSampleKey kept (named_sample sample.now)) domain.old.service }
-    ensures releases { result ≡ 0 → Becomes (λ old new. SubscriberReleases old new (wide (sample.now).subscriber) (wide (sample.now).number)) domain.old.service domain.new.service }
+    ensures releases { result ≡ 0 → Becomes (λ old new. SubscriberReleases old new (wide (sample.now).subscriber)
+        (wide (sample.now).number)) domain.old.service domain.new.service }
     ensures spent { KnowsNo (λ kept. IsSampleKey kept (named_sample sample.now)) domain.new.service }
     ensures refused { 0 < result → domain.new.service ≡ domain.old.service }
     ensures stays { HoldsOn (A_sample (wide (sample.now).subscriber) (wide (sample.now).number)) domain.old.service domain.new.service }

@@ -24,7 +24,8 @@ pub extern "C" fn iox2ps_loan_send_counted(
     blocked: &mut LoanNumbers,
 ) -> u32
     ensures no_domain { (result ≡ 1) ↔ (domain.old.service ≡ None) }
-    ensures sent { (result ≡ 0) ⊎ ((2 < result) × (result ≢ 7)) → (outcome : Result SendOutcome SendError) × (result ≡ sent_code outcome) × (receivers.new ≡ receivers_of receivers.old outcome)
+    ensures sent { (result ≡ 0) ⊎ ((2 < result) × (result ≢ 7)) → (outcome : Result SendOutcome SendError)
+        × (result ≡ sent_code outcome) × (receivers.new ≡ receivers_of receivers.old outcome)
         × Becomes (λ old new. SendsNumbered old new (wide (loan.now).number) outcome) domain.old.service domain.new.service }
     ensures why { (result ≡ 2) ⊎ (result ≡ 7) → Knows (λ kept. RefusesSend kept (named_loan loan.now) result) domain.old.service }
     ensures refused { (result ≡ 2) ⊎ (result ≡ 7) → domain.new.service ≡ domain.old.service }
@@ -51,7 +52,8 @@ pub extern "C" fn iox2ps_publisher_send_copy_counted(
     blocked: &mut LoanNumbers,
 ) -> u32
     ensures no_domain { (result ≡ 1) ↔ (domain.old.service ≡ None) }
-    ensures sent { (result ≡ 0) ⊎ ((2 < result) × (result ≢ 7)) → (outcome : Result SendOutcome SendError) × (result ≡ sent_code outcome) × (receivers.new ≡ receivers_of receivers.old outcome)
+    ensures sent { (result ≡ 0) ⊎ ((2 < result) × (result ≢ 7)) → (outcome : Result SendOutcome SendError)
+        × (result ≡ sent_code outcome) × (receivers.new ≡ receivers_of receivers.old outcome)
         × Becomes (λ old new. SendsBytes old new (wide (publisher.now).id) bytes.now outcome) domain.old.service domain.new.service }
     ensures why { (result ≡ 2) ⊎ (result ≡ 7) → Knows (λ kept. RefusesPublisher kept (named_publisher publisher.now) result) domain.old.service }
     ensures refused { (result ≡ 2) ⊎ (result ≡ 7) → domain.new.service ≡ domain.old.service }
@@ -75,7 +77,8 @@ pub extern "C" fn iox2ps_blocked_retry_counted(
     receivers: &mut usize,
 ) -> u32
     ensures no_domain { (result ≡ 1) ↔ (domain.old.service ≡ None) }
-    ensures ends { (result ≡ 0) ⊎ (2 < result) → (outcome : Result SendOutcome SendError) × (result ≡ sent_code outcome) × (receivers.new ≡ receivers_of receivers.old outcome)
+    ensures ends { (result ≡ 0) ⊎ (2 < result) → (outcome : Result SendOutcome SendError)
+        × (result ≡ sent_code outcome) × (receivers.new ≡ receivers_of receivers.old outcome)
         × Becomes (λ old new. BlockedSendRetries old new (wide (blocked.now).publisher) elapsed outcome) domain.old.service domain.new.service }
     ensures not_live { result ≡ 2 → KnowsNo (λ kept. IsBlockedKey kept (named_loan blocked.now)) domain.old.service }
     ensures refused { result ≡ 2 → domain.new.service ≡ domain.old.service }
@@ -96,7 +99,8 @@ pub extern "C" fn iox2ps_blocked_give_up_counted(
     receivers: &mut usize,
 ) -> u32
     ensures no_domain { (result ≡ 1) ↔ (domain.old.service ≡ None) }
-    ensures ends { (result ≡ 0) ⊎ (2 < result) → (outcome : Result SendOutcome SendError) × (result ≡ sent_code outcome) × (receivers.new ≡ receivers_of receivers.old outcome)
+    ensures ends { (result ≡ 0) ⊎ (2 < result) → (outcome : Result SendOutcome SendError)
+        × (result ≡ sent_code outcome) × (receivers.new ≡ receivers_of receivers.old outcome)
         × Becomes (λ old new. BlockedSendGivesUp old new (wide (blocked.now).publisher) outcome) domain.old.service domain.new.service }
     ensures not_live { result ≡ 2 → KnowsNo (λ kept. IsBlockedKey kept (named_loan blocked.now)) domain.old.service }
     ensures refused { result ≡ 2 → domain.new.service ≡ domain.old.service }

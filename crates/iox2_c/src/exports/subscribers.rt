@@ -25,8 +25,12 @@ pub extern "C" fn iox2ps_subscriber_create(
     subscriber: &mut SubscriberNumbers,
 ) -> u32
     ensures no_domain { (result ≡ 1) ↔ (domain.old.service ≡ None) }
-    ensures creates { result ≡ 0 → HoldsFromOldToNew (λ old new. CreatesSubscriber old.domain new.domain (plain_subscriber_settings old) (Ok subscriber.new)) domain.old.service domain.new.service }
-    ensures errors { 1 < result → (error : SubscriberCreateError) × (result ≡ subscriber_code error) × HoldsFromOldToNew (λ old new. CreatesSubscriber old.domain new.domain (plain_subscriber_settings old) (Err error)) domain.old.service domain.new.service }
+    ensures creates { result ≡ 0 → HoldsFromOldToNew
+        (λ old new. CreatesSubscriber old.domain new.domain (plain_subscriber_settings old) (Ok subscriber.new))
+        domain.old.service domain.new.service }
+    ensures errors { 1 < result → (error : SubscriberCreateError) × (result ≡ subscriber_code error)
+        × HoldsFromOldToNew (λ old new. CreatesSubscriber old.domain new.domain (plain_subscriber_settings old)
+        (Err error)) domain.old.service domain.new.service }
     ensures live { result ≡ 0 → Knows (λ kept. IsSubscriberKey kept (named_subscriber subscriber.new)) domain.new.service }
     ensures new { result ≡ 0 → Knows (λ kept. IsNewIn kept (A_subscriber (wide (subscriber.new).id))) domain.old.service }
     ensures same { 0 < result → subscriber.new ≡ subscriber.old }
@@ -46,8 +50,13 @@ pub extern "C" fn iox2ps_subscriber_create_with(
     subscriber: &mut SubscriberNumbers,
 ) -> u32
     ensures no_domain { (result ≡ 1) ↔ (domain.old.service ≡ None) }
-    ensures creates { result ≡ 0 → HoldsFromOldToNew (λ old new. CreatesSubscriber old.domain new.domain (subscriber_settings options.now) (Ok subscriber.new)) domain.old.service domain.new.service }
-    ensures errors { 1 < result → result < first_setting_code → (error : SubscriberCreateError) × (result ≡ subscriber_code error) × HoldsFromOldToNew (λ old new. CreatesSubscriber old.domain new.domain (subscriber_settings options.now) (Err error)) domain.old.service domain.new.service }
+    ensures creates { result ≡ 0 → HoldsFromOldToNew
+        (λ old new. CreatesSubscriber old.domain new.domain (subscriber_settings options.now) (Ok subscriber.new))
+        domain.old.service domain.new.service }
+    ensures errors { 1 < result → result < first_setting_code → (error : SubscriberCreateError)
+        × (result ≡ subscriber_code error)
+        × HoldsFromOldToNew (λ old new. CreatesSubscriber old.domain new.domain (subscriber_settings options.now)
+        (Err error)) domain.old.service domain.new.service }
     ensures valid { result ≢ 1 → result < first_setting_code → invalid_subscriber_option options.now ≡ 0 }
     ensures invalid { first_setting_code ≤ result → result ≡ invalid_subscriber_option options.now }
     ensures refused { (result ≡ 1) ⊎ (first_setting_code ≤ result) → domain.new.service ≡ domain.old.service }
@@ -91,14 +100,18 @@ pub extern "C" fn iox2ps_subscriber_receive(
     len: &mut usize,
 ) -> u32
     ensures no_domain { (result ≡ 1) ↔ (domain.old.service ≡ None) }
-    ensures received { result ≡ 0 → Becomes (λ old new. SubscriberReceives old new (wide (subscriber.now).id) (Got_sample (wide (sample.new).origin) (wide (sample.new).number))) domain.old.service domain.new.service }
+    ensures received { result ≡ 0 → Becomes (λ old new. SubscriberReceives old new (wide (subscriber.now).id)
+        (Got_sample (wide (sample.new).origin) (wide (sample.new).number))) domain.old.service domain.new.service }
     ensures nothing { result ≡ 3 → Becomes (λ old new. SubscriberReceives old new (wide (subscriber.now).id) No_sample) domain.old.service domain.new.service }
-    ensures errors { 3 < result → (error : ReceiveError) × (result ≡ receive_code error) × Becomes (λ old new. SubscriberReceives old new (wide (subscriber.now).id) (Receive_error error)) domain.old.service domain.new.service }
+    ensures errors { 3 < result → (error : ReceiveError) × (result ≡ receive_code error)
+        × Becomes (λ old new. SubscriberReceives old new (wide (subscriber.now).id) (Receive_error error))
+        domain.old.service domain.new.service }
     ensures not_live { result ≡ 2 → KnowsNo (λ kept. IsSubscriberKey kept (named_subscriber subscriber.now)) domain.old.service }
     ensures refused { 0 < result → result < 3 → domain.new.service ≡ domain.old.service }
     ensures live { result ≡ 0 → Knows (λ kept. IsSampleKey kept (named_sample sample.new)) domain.new.service }
     ensures new { result ≡ 0 → Knows (λ kept. IsNewIn kept (A_sample (wide (sample.new).subscriber) (wide (sample.new).number))) domain.old.service }
-    ensures length { result ≡ 0 → Knows (λ kept. (values : List ℕ) → SampleHasValues kept (named_sample sample.new) values → len.new ≡ length values) domain.new.service }
+    ensures length { result ≡ 0 → Knows (λ kept. (values : List ℕ)
+        → SampleHasValues kept (named_sample sample.new) values → len.new ≡ length values) domain.new.service }
     ensures same { 0 < result → sample.new ≡ sample.old }
     ensures same_length { 0 < result → len.new ≡ len.old }
     ensures stays { HoldsOn No_item domain.old.service domain.new.service }
@@ -119,15 +132,21 @@ pub extern "C" fn iox2ps_subscriber_receive_copy(
     sample: &mut SampleNumbers,
 ) -> u32
     ensures no_domain { (result ≡ 1) ↔ (domain.old.service ≡ None) }
-    ensures copied { result ≡ 0 → (key : Key) × (key.port ≡ wide (subscriber.now).id) × (origin : ℕ) × Becomes (λ old new. ReceivesCopy old new key origin (take len.new bytes.new)) domain.old.service domain.new.service }
+    ensures copied { result ≡ 0 → (key : Key) × (key.port ≡ wide (subscriber.now).id) × (origin : ℕ)
+        × Becomes (λ old new. ReceivesCopy old new key origin (take len.new bytes.new)) domain.old.service
+        domain.new.service }
     ensures fits { result ≡ 0 → len.new ≤ length bytes.old }
-    ensures kept { result ≡ 9 → Becomes (λ old new. SubscriberReceives old new (wide (subscriber.now).id) (Got_sample (wide (sample.new).origin) (wide (sample.new).number))) domain.old.service domain.new.service }
+    ensures kept { result ≡ 9 → Becomes (λ old new. SubscriberReceives old new (wide (subscriber.now).id)
+        (Got_sample (wide (sample.new).origin) (wide (sample.new).number))) domain.old.service domain.new.service }
     ensures live { result ≡ 9 → Knows (λ kept. IsSampleKey kept (named_sample sample.new)) domain.new.service }
     ensures new { result ≡ 9 → Knows (λ kept. IsNewIn kept (A_sample (wide (sample.new).subscriber) (wide (sample.new).number))) domain.old.service }
     ensures small { result ≡ 9 → length bytes.old < len.new }
-    ensures length { result ≡ 9 → Knows (λ kept. (values : List ℕ) → SampleHasValues kept (named_sample sample.new) values → len.new ≡ length values) domain.new.service }
+    ensures length { result ≡ 9 → Knows (λ kept. (values : List ℕ)
+        → SampleHasValues kept (named_sample sample.new) values → len.new ≡ length values) domain.new.service }
     ensures nothing { result ≡ 3 → Becomes (λ old new. SubscriberReceives old new (wide (subscriber.now).id) No_sample) domain.old.service domain.new.service }
-    ensures errors { 3 < result → result ≢ 9 → (error : ReceiveError) × (result ≡ receive_code error) × Becomes (λ old new. SubscriberReceives old new (wide (subscriber.now).id) (Receive_error error)) domain.old.service domain.new.service }
+    ensures errors { 3 < result → result ≢ 9 → (error : ReceiveError) × (result ≡ receive_code error)
+        × Becomes (λ old new. SubscriberReceives old new (wide (subscriber.now).id) (Receive_error error))
+        domain.old.service domain.new.service }
     ensures not_live { result ≡ 2 → KnowsNo (λ kept. IsSubscriberKey kept (named_subscriber subscriber.now)) domain.old.service }
     ensures refused { 0 < result → result < 3 → domain.new.service ≡ domain.old.service }
     ensures same { 0 < result → bytes.new ≡ bytes.old }

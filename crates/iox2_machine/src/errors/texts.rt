@@ -3,7 +3,11 @@
 //!
 //! iceoryx2 prints them in the same way (`Display` of each, beside its declaration).
 ghost use Rattle.std.specs.Prelude.{◌≡◌, Some};
-ghost use Rattle.iox2_machine.specs.ErrorTexts.{connection_failure_name, connection_failure_text, domain_create_error_text, loan_error_name, loan_error_text, publisher_create_error_name, publisher_create_error_text, receive_error_text, send_error_text, subscriber_create_error_name, subscriber_create_error_text};
+ghost use Rattle.iox2_machine.specs.ErrorTexts.{connection_failure_name, connection_failure_text};
+ghost use Rattle.iox2_machine.specs.ErrorTexts.{domain_create_error_text, loan_error_name, loan_error_text};
+ghost use Rattle.iox2_machine.specs.ErrorTexts.{publisher_create_error_name, publisher_create_error_text};
+ghost use Rattle.iox2_machine.specs.ErrorTexts.{receive_error_text, send_error_text, subscriber_create_error_name};
+ghost use Rattle.iox2_machine.specs.ErrorTexts.{subscriber_create_error_text};
 
 use super::{
     ConnectionFailure, DomainCreateError, LoanError, PublisherCreateError, ReceiveError, SendError,

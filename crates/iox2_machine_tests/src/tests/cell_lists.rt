@@ -14,7 +14,8 @@ fn listed(
     is_written: bool,
 ) -> Option<u64>
     requires slots { length contents.old ≡ 2 }
-    requires closed { SomeAt contents.old 0 (λ content. (len ≤ content.room) × (content.cells ≡ []) × (content.is_in_place ≡ false) × (content.lists ≡ 3) × (content.room ≡ 4)) }
+    requires closed { SomeAt contents.old 0 (λ content. (len ≤ content.room) × (content.cells ≡ [])
+        × (content.is_in_place ≡ false) × (content.lists ≡ 3) × (content.room ≡ 4)) }
     ensures slots { length contents.new ≡ 2 }
     ensures closed { SomeAt contents.new 0 (λ content. (content.cells ≡ []) × (content.is_in_place ≡ false) × (content.lists ≡ 3) × (content.room ≡ 4)) }
 {

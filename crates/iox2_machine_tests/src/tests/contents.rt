@@ -39,7 +39,8 @@ fn a_loan_starts_with_empty_cells(rt: HostRuntime) {
 fn written_beside_a_loan(rt: &impl Abort, alloc: Global, celsius: u64) -> Contents<Reading, Station>
     ensures slots { length result ≡ 2 }
     ensures beside { SomeAt result 0 (λ content. 0 < content.lists) }
-    ensures written { SomeAt result 1 (λ content. (0 < length content.values) × (content.cells ≡ []) × (content.is_in_place ≡ false) × (content.lists ≡ 3) × (content.room ≡ 3)) }
+    ensures written { SomeAt result 1 (λ content. (0 < length content.values) × (content.cells ≡ [])
+        × (content.is_in_place ≡ false) × (content.lists ≡ 3) × (content.room ≡ 3)) }
 {
     let mut contents: Contents<Reading, Station> = Contents::new(alloc, 2, 3, true, 3).expect(
         rt, "room",

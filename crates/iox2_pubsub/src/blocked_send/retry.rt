@@ -39,14 +39,19 @@ impl BlockedSend {
         elapsed: Duration,
     ) -> Result<SendOutcome, SendError>
         requires live { IsBlockedSend domain.old self }
-        ensures retries { (m : Messages T U) (s : State T U) (x : Record) (b : Waiting) → Shows domain.old m s → s.publishers (blocked_sender self) ≡ Some x → x.blocked ≡ Some b
-            → (s' : State T U) × Shows domain.new m s' × Retry (answers_of F.allows G.allows (domain.old.boxes).publishers) s (blocked_sender self) b elapsed s' (result_of_send result) }
+        ensures retries { (m : Messages T U) (s : State T U) (x : Record) (b : Waiting) → Shows domain.old m s
+            → s.publishers (blocked_sender self) ≡ Some x → x.blocked ≡ Some b
+            → (s' : State T U) × Shows domain.new m s'
+            × Retry (answers_of F.allows G.allows (domain.old.boxes).publishers) s (blocked_sender self) b elapsed
+            s' (result_of_send result) }
         ensures no_more { IfOk result (λ outcome. IfBlocked outcome (λ blocked. receivers_ahead domain.new blocked ≤ receivers_ahead domain.old self)) }
         ensures consistent { IsConsistent domain.old }
         ensures goes_on { BlockedSendGoesOn self result domain.old domain.new }
-        ensures full { (target subscriber : Subscriber) (values : List T) → IsPending domain.old self target values → IsConnected domain.old (blocked_sender self) subscriber
+        ensures full { (target subscriber : Subscriber) (values : List T) → IsPending domain.old self target values
+            → IsConnected domain.old (blocked_sender self) subscriber
             → IfOk result (λ outcome. IfBlocked outcome (λ again. IsNext domain.new again subscriber → IsFull domain.old (blocked_sender self) subscriber)) }
-        ensures roomy { (target : Subscriber) (values : List T) (subscribers : List Subscriber) → IsPending domain.old self target values → AreAllSubscribers domain.old subscribers
+        ensures roomy { (target : Subscriber) (values : List T) (subscribers : List Subscriber)
+            → IsPending domain.old self target values → AreAllSubscribers domain.old subscribers
             → AreEach (IsPastOrRoomy domain.old self) subscribers → IfOk result IsDelivered }
         ensures resumes { Resumes (λ subscriber. ⊤) self result domain.old domain.new }
     {
@@ -67,17 +72,23 @@ impl BlockedSend {
         domain: &mut Domain<T, U, F, G>,
     ) -> Result<SendOutcome, SendError>
         requires live { IsBlockedSend domain.old self }
-        ensures gives_up { (m : Messages T U) (s : State T U) (x : Record) (b : Waiting) → Shows domain.old m s → s.publishers (blocked_sender self) ≡ Some x → x.blocked ≡ Some b
-            → (s' : State T U) × Shows domain.new m s' × GiveUp (answers_of F.allows G.allows (domain.old.boxes).publishers) s (blocked_sender self) b s' (result_of_send result) }
+        ensures gives_up { (m : Messages T U) (s : State T U) (x : Record) (b : Waiting) → Shows domain.old m s
+            → s.publishers (blocked_sender self) ≡ Some x → x.blocked ≡ Some b
+            → (s' : State T U) × Shows domain.new m s'
+            × GiveUp (answers_of F.allows G.allows (domain.old.boxes).publishers) s (blocked_sender self) b s'
+            (result_of_send result) }
         ensures fewer { IfOk result (λ outcome. IfBlocked outcome (λ blocked. receivers_ahead domain.new blocked < receivers_ahead domain.old self)) }
         ensures consistent { IsConsistent domain.old }
         ensures goes_on { BlockedSendGoesOn self result domain.old domain.new }
-        ensures full { (target subscriber : Subscriber) (values : List T) → IsPending domain.old self target values → IsConnected domain.old (blocked_sender self) subscriber
+        ensures full { (target subscriber : Subscriber) (values : List T) → IsPending domain.old self target values
+            → IsConnected domain.old (blocked_sender self) subscriber
             → IfOk result (λ outcome. IfBlocked outcome (λ again. IsNext domain.new again subscriber → IsFull domain.old (blocked_sender self) subscriber)) }
-        ensures roomy { (target : Subscriber) (values : List T) (subscribers : List Subscriber) → IsPending domain.old self target values → AreAllSubscribers domain.old subscribers
+        ensures roomy { (target : Subscriber) (values : List T) (subscribers : List Subscriber)
+            → IsPending domain.old self target values → AreAllSubscribers domain.old subscribers
             → AreEach (λ it. IsNext domain.old self it ⊎ IsPastOrRoomy domain.old self it) subscribers → IfOk result IsDelivered }
         ensures resumes { Resumes (IsNotNext domain.old self) self result domain.old domain.new }
-        ensures skips { (subscriber : Subscriber) (values : List T) → IsNext domain.old self subscriber → IsPending domain.old self subscriber values → IsLeftBehind subscriber result domain.old domain.new }
+        ensures skips { (subscriber : Subscriber) (values : List T) → IsNext domain.old self subscriber
+            → IsPending domain.old self subscriber values → IsLeftBehind subscriber result domain.old domain.new }
     {
         let BlockedSend { service_id, loan } = self;
         let place = domain.state.find_live_publisher(loan.publisher, loan.place);

@@ -14,7 +14,9 @@ use iox2_messages::is_last_at_hint;
 
 impl<T: Drop, U: Default + Drop, F: BackpressureFn, G: DegradationFn> Domain<T, U, F, G> {
     ghost use Rattle.iox2_machine.specs.declared.allocation.AllocationStrategy.TheVariants.{Static};
-    ghost use Rattle.iox2_pubsub.specs.Live.{HasMark, IsLiveSample, IsLiveSubscriber, IsLoanKey, IsPlaced, IsPlacedPublisher, IsPublisherKey, IsReadyPublisher, IsSampleKey, IsUnblocked, IsUpToDate};
+    ghost use Rattle.iox2_pubsub.specs.Live.{HasMark, IsLiveSample, IsLiveSubscriber, IsLoanKey, IsPlaced};
+    ghost use Rattle.iox2_pubsub.specs.Live.{IsPlacedPublisher, IsPublisherKey, IsReadyPublisher, IsSampleKey};
+    ghost use Rattle.iox2_pubsub.specs.Live.{IsUnblocked, IsUpToDate};
     ghost use Rattle.iox2_pubsub.specs.LoansLeft.{GrowsBy, HasNumbersLeft};
     ghost use Rattle.iox2_pubsub.specs.Parts.{LenderIsPlaced, loan_named, publisher_named, publisher_of_parts, sample_named, sample_parts, subscriber_with};
 

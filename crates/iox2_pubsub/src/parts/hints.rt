@@ -40,7 +40,8 @@ pub(crate) fn find_open_subscriber<T: Drop, U: Default + Drop>(
 ) -> Option<usize>
     requires { IsDomain state.now }
     ensures { MatchOption result (HoldsSubscriber (state_of (kept_of state.now)) id → ⊥)
-        (λ i. HoldsSubscriber (state_of (kept_of state.now)) id × (y : SubscriberFields) × (slice_index_or state.now.subscribers i None ≡ Some y) × (y.id ≡ id)) }
+        (λ i. HoldsSubscriber (state_of (kept_of state.now)) id × (y : SubscriberFields)
+        × (slice_index_or state.now.subscribers i None ≡ Some y) × (y.id ≡ id)) }
 {
     let Some(place) = state.find_subscriber(id, place) else {
         return None;
@@ -187,7 +188,8 @@ pub(crate) fn written_at_hint<T: Drop, U: Default + Drop>(
 ) -> Option<usize>
     requires { IsDomain state.now }
     ensures written { IfSome result (λ _. HoldsWritten (state_of (kept_of state.now)) loan.now.publisher loan.now.number) }
-    ensures placed { IfSome result (λ _. (x : PublisherFields) × (slice_index_or state.now.publishers loan.now.place None ≡ Some x) × (x.id ≡ loan.now.publisher)) }
+    ensures placed { IfSome result (λ _. (x : PublisherFields)
+        × (slice_index_or state.now.publishers loan.now.place None ≡ Some x) × (x.id ≡ loan.now.publisher)) }
 {
     let Some(key) = book_of(state, loan.place, loan.publisher) else {
         return None;
@@ -212,7 +214,8 @@ fn find_lent<T: Drop, U: Default + Drop>(
     loan: &LoanAt,
 ) -> Option<MessageSlot>
     requires { IsDomain state.now }
-    ensures { MatchOption result (HoldsLoan (state_of (kept_of state.now)) loan.now.publisher loan.now.number → ⊥) (λ at. LiesInSlot state.now loan.now.publisher loan.now.number at.book at.slot) }
+    ensures { MatchOption result (HoldsLoan (state_of (kept_of state.now)) loan.now.publisher loan.now.number → ⊥)
+        (λ at. LiesInSlot state.now loan.now.publisher loan.now.number at.book at.slot) }
 {
     if is_lent_at_hint(state, loan) {
         return Some(MessageSlot {
@@ -246,7 +249,8 @@ pub(crate) fn find_marked<T: Drop, U: Default + Drop>(
 ) -> Option<MessageSlot>
     requires { IsDomain state.now }
     ensures { MatchOption result (HoldsMarked (state_of (kept_of state.now)) loan.now.publisher loan.now.number wants_written → ⊥)
-        (λ at. HoldsMarked (state_of (kept_of state.now)) loan.now.publisher loan.now.number wants_written × LiesInSlot state.now loan.now.publisher loan.now.number at.book at.slot) }
+        (λ at. HoldsMarked (state_of (kept_of state.now)) loan.now.publisher loan.now.number wants_written
+        × LiesInSlot state.now loan.now.publisher loan.now.number at.book at.slot) }
 {
     let Some(at) = find_lent(state, loan) else {
         return None;
@@ -263,7 +267,8 @@ pub(crate) fn find_borrowed<T: Drop, U: Default + Drop>(
     sample: &SampleAt,
 ) -> Option<SampleSlot>
     requires { IsDomain state.now }
-    ensures { MatchOption result (HoldsSample (state_of (kept_of state.now)) sample.now.subscriber sample.now.number → ⊥) (LiesBorrowed state.now sample.now.subscriber sample.now.number) }
+    ensures { MatchOption result (HoldsSample (state_of (kept_of state.now)) sample.now.subscriber sample.now.number
+        → ⊥) (LiesBorrowed state.now sample.now.subscriber sample.now.number) }
 {
     let found = state.find_sample_at(sample.connection, sample.subscriber, sample.number);
     if found.is_some() {

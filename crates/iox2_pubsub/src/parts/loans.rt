@@ -13,7 +13,15 @@ use iox2_machine::{BackpressureFn, DegradationFn, Key, UniquePublisherId};
 impl LoanParts {
     // The numbers of a handle's private part.
     pub(crate) fn of(service_id: u128, loan: LoanAt) -> LoanParts
-        ensures { result ≡ record { service_id = service_id; publisher = loan.publisher; number = loan.number; place = loan.place; book = loan.book; slot = loan.slot } }
+        ensures { result ≡ record {
+          service_id = service_id;
+          publisher = loan.publisher;
+          number = loan.number;
+          place =
+              loan.place;
+          book = loan.book;
+          slot = loan.slot;
+        } }
     {
         LoanParts {
             service_id,
@@ -27,7 +35,13 @@ impl LoanParts {
 
     // The private part of a handle with these numbers.
     pub(crate) fn loan(&self) -> LoanAt
-        ensures { result ≡ record { publisher = self.now.publisher; number = self.now.number; place = self.now.place; book = self.now.book; slot = self.now.slot } }
+        ensures { result ≡ record {
+          publisher = self.now.publisher;
+          number = self.now.number;
+          place = self.now.place;
+          book = self.now.book;
+          slot = self.now.slot;
+        } }
     {
         LoanAt {
             publisher: UniquePublisherId::new(self.publisher),
@@ -74,7 +88,15 @@ impl<T: Drop, U: Default + Drop, F: BackpressureFn, G: DegradationFn> Domain<T, 
     fn marked_of(&self, parts: &LoanParts, wants_written: bool) -> Option<LoanAt>
         ensures out { IfSome result (λ loan. IsLoanKey self.now (loan_named parts.now) × HasMark self.now (parts.now).number wants_written) }
         ensures placed { IfSome result (λ loan. IsPlaced self.now (parts.now).number loan.book loan.slot) }
-        ensures named { IfSome result (λ loan. loan ≡ record { publisher = parts.now.publisher; number = parts.now.number; place = parts.now.place; book = loan.book; slot = loan.slot }) }
+        ensures named { IfSome result (λ loan. loan
+            ≡ record {
+              publisher = parts.now.publisher;
+              number = parts.now.number;
+              place = parts.now.place;
+              book =
+                  loan.book;
+              slot = loan.slot;
+            }) }
         ensures none { IfNone result (IsLoanKey self.now (loan_named parts.now) → HasMark self.now (parts.now).number wants_written → ⊥) }
     {
         if parts.service_id != self.state.config().service_id {

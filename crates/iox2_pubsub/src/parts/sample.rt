@@ -14,7 +14,14 @@ impl SampleParts {
 
     // The private part of a handle with these numbers.
     pub(crate) fn sample(&self) -> SampleAt
-        ensures { result ≡ record { subscriber = self.now.subscriber; number = self.now.number; connection = self.now.connection; book = self.now.book; slot = self.now.slot } }
+        ensures { result ≡ record {
+          subscriber = self.now.subscriber;
+          number = self.now.number;
+          connection =
+              self.now.connection;
+          book = self.now.book;
+          slot = self.now.slot;
+        } }
     {
         SampleAt {
             subscriber: UniqueSubscriberId::new(self.subscriber),
@@ -74,7 +81,14 @@ impl<T: Drop, U: Default + Drop, F: BackpressureFn, G: DegradationFn> Domain<T, 
     fn borrowed_of(&self, parts: &SampleParts) -> Option<SampleAt>
         ensures live { IfSome result (λ sample. IsSampleKey self.now (sample_named parts.now)) }
         ensures placed { IfSome result (λ sample. IsPlaced self.now (parts.now).number sample.book sample.slot) }
-        ensures named { IfSome result (λ sample. sample ≡ record { subscriber = parts.now.subscriber; number = parts.now.number; connection = sample.connection; book = sample.book; slot = sample.slot }) }
+        ensures named { IfSome result (λ sample. sample
+            ≡ record {
+              subscriber = parts.now.subscriber;
+              number = parts.now.number;
+              connection = sample.connection;
+              book = sample.book;
+              slot = sample.slot;
+            }) }
         ensures none { IfNone result (IsSampleKey self.now (sample_named parts.now) → ⊥) }
     {
         if parts.service_id != self.state.config().service_id {
@@ -100,7 +114,8 @@ impl<T: Drop, U: Default + Drop, F: BackpressureFn, G: DegradationFn> Domain<T, 
     /// handle's numbers are theirs but for these three. Its origin isn't looked up.
     pub fn sample_of<K>(&self, parts: &SampleParts) -> Option<Sample<K>>
         ensures live { IfSome result (λ sample. IsLiveSample self.now sample) }
-        ensures named { IfSome result (λ sample. record (sample_parts sample) { connection = parts.now.connection; book = parts.now.book; slot = parts.now.slot } ≡ parts.now) }
+        ensures named { IfSome result (λ sample. record (sample_parts sample)
+            { connection = parts.now.connection; book = parts.now.book; slot = parts.now.slot } ≡ parts.now) }
         ensures none { IfNone result (IsSampleKey self.now (sample_named parts.now) → ⊥) }
     {
         let Some(sample) = self.borrowed_of(parts) else {

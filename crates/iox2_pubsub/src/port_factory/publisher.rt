@@ -88,7 +88,15 @@ impl<T: Drop, U: Default + Drop, F: BackpressureFn, G: DegradationFn> Domain<T, 
     ///
     /// iceoryx2's `publisher_builder` of a service's factory of ports.
     pub fn publisher_builder(&self) -> PortFactoryPublisher<F, G>
-        ensures { result ≡ record { settings = record (plain_publisher (self.now.config).publisher_max_loaned_samples (self.now.config).backpressure_strategy 1) { allocation_strategy = (self.now.config).publisher_allocation_strategy }; box = None; degradation_box = None; preallocated = record {} } }
+        ensures { result ≡ record {
+          settings = record
+              (plain_publisher (self.now.config).publisher_max_loaned_samples (self.now.config).backpressure_strategy 1)
+              { allocation_strategy = (self.now.config).publisher_allocation_strategy };
+          box = None;
+          degradation_box =
+              None;
+          preallocated = record {};
+        } }
     {
         PortFactoryPublisher::with_settings_of(self.state.config())
     }
@@ -97,7 +105,14 @@ impl<T: Drop, U: Default + Drop, F: BackpressureFn, G: DegradationFn> Domain<T, 
 impl<F, G, H> PortFactoryPublisher<F, G, NoOverride, H> {
     // A factory that was told nothing yet, in a domain with these settings.
     pub(crate) fn with_settings_of(config: &ServiceConfig) -> Self
-        ensures { result ≡ record { settings = record (plain_publisher (config.now).publisher_max_loaned_samples (config.now).backpressure_strategy 1) { allocation_strategy = (config.now).publisher_allocation_strategy }; box = None; degradation_box = None; preallocated = record {} } }
+        ensures { result ≡ record {
+          settings = record
+              (plain_publisher (config.now).publisher_max_loaned_samples (config.now).backpressure_strategy 1)
+              { allocation_strategy = (config.now).publisher_allocation_strategy };
+          box = None;
+          degradation_box = None;
+          preallocated = record {};
+        } }
     {
         PortFactoryPublisher {
             slots: SlotSettings {
@@ -211,7 +226,13 @@ impl<F: BackpressureFn, G: DegradationFn, O: Drop, H> PortFactoryPublisher<F, G,
     /// iceoryx2's `PortFactoryPublisher::__internal_partial_clone`
     /// (`src/service/port_factory/publisher.rs`).
     pub fn internal_partial_clone(&self) -> PortFactoryPublisher<F, G, NoOverride, H>
-        ensures { result ≡ record { settings = record (self.now.settings) { degradation_handler = Fixed Warn; backpressure_handler = None }; box = None; degradation_box = None; preallocated = record {} } }
+        ensures { result ≡ record {
+          settings = record (self.now.settings)
+              { degradation_handler = Fixed Warn; backpressure_handler = None };
+          box = None;
+          degradation_box = None;
+          preallocated = record {};
+        } }
     {
         PortFactoryPublisher {
             slots: SlotSettings {
@@ -270,10 +291,14 @@ impl<F: BackpressureFn, G: DegradationFn, H: PortHandle<Publisher>> PortFactoryP
     ) -> Result<H, PublisherCreateError>
         ensures creates { (m : Messages T U) (s : State T U) → Shows domain.old m s → (s' : State T U) × Shows domain.new m s'
             × MatchResult result
-            (λ publisher. (publisher_id (H.as_port publisher) ≡ s.next_port) × CreatePublisher (answers_of F.allows G.allows (domain.new.boxes).publishers) s self.settings s' None)
+            (λ publisher. (publisher_id (H.as_port publisher) ≡ s.next_port)
+            × CreatePublisher (answers_of F.allows G.allows (domain.new.boxes).publishers) s self.settings s'
+            None)
             (λ e. CreatePublisher (answers_of F.allows G.allows (domain.new.boxes).publishers) s self.settings s' (Some e)) }
         ensures made { IfOk result (λ publisher. IsMadePublisher self.settings self.box self.degradation_box (H.as_port publisher) domain.old domain.new) }
-        ensures left { LendsFirst (domain.old.config) self.settings → IfOk result (λ publisher. HasLoansLeft domain.new (H.as_port publisher) self.settings.max_loaned_samples) }
+        ensures left { LendsFirst (domain.old.config) self.settings
+            → IfOk result (λ publisher. HasLoansLeft domain.new (H.as_port publisher)
+            self.settings.max_loaned_samples) }
         ensures refused { OnErr result (WaitingStays domain.old domain.new) }
         ensures leaves { LeavesNoFewer domain.old domain.new }
     {
@@ -301,10 +326,17 @@ pub(crate) fn create_plain<T: Drop, U: Default + Drop, F: BackpressureFn, G: Deg
 ) -> Result<Publisher, PublisherCreateError>
     ensures creates { (m : Messages T U) (s : State T U) → Shows domain.old m s → (s' : State T U) × Shows domain.new m s'
         × MatchResult result
-        (λ publisher. (publisher_id publisher ≡ s.next_port) × CreatePublisher (answers_of F.allows G.allows (domain.new.boxes).publishers) s (settings_with given.now (marks_of handler) segments) s' None)
-        (λ e. CreatePublisher (answers_of F.allows G.allows (domain.new.boxes).publishers) s (settings_with given.now (marks_of handler) segments) s' (Some e)) }
-    ensures made { IfOk result (λ publisher. IsMadePublisher (settings_with given.now (marks_of handler) segments) (custom_box handler) degradation publisher domain.old domain.new) }
-    ensures left { worst_case (domain.old.config) given.now.max_loaned_samples ≤ slots_for (domain.old.config) (settings_with given.now (marks_of handler) segments) → LendsFirst (domain.old.config) (settings_with given.now (marks_of handler) segments) → IfOk result (λ publisher. HasLoansLeft domain.new publisher given.now.max_loaned_samples) }
+        (λ publisher. (publisher_id publisher ≡ s.next_port)
+        × CreatePublisher (answers_of F.allows G.allows (domain.new.boxes).publishers) s
+        (settings_with given.now (marks_of handler) segments) s' None)
+        (λ e. CreatePublisher (answers_of F.allows G.allows (domain.new.boxes).publishers) s
+        (settings_with given.now (marks_of handler) segments) s' (Some e)) }
+    ensures made { IfOk result (λ publisher. IsMadePublisher (settings_with given.now (marks_of handler) segments)
+        (custom_box handler) degradation publisher domain.old domain.new) }
+    ensures left { worst_case (domain.old.config) given.now.max_loaned_samples ≤ slots_for (domain.old.config)
+        (settings_with given.now (marks_of handler) segments)
+        → LendsFirst (domain.old.config) (settings_with given.now (marks_of handler) segments)
+        → IfOk result (λ publisher. HasLoansLeft domain.new publisher given.now.max_loaned_samples) }
     ensures refused { OnErr result (WaitingStays domain.old domain.new) }
     ensures leaves { LeavesNoFewer domain.old domain.new }
 {

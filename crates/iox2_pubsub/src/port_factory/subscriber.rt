@@ -7,7 +7,9 @@ ghost use Rattle.iox2_machine.specs.machine.Ports.{default_subscriber_settings, 
 ghost use Rattle.iox2_machine.specs.machine.State.{State, Messages};
 ghost use Rattle.iox2_machine.specs.machine.Limits.{expired_limit};
 ghost use Rattle.iox2_pubsub.specs.BorrowsLeft.{HasBorrowsLeft};
-ghost use Rattle.iox2_pubsub.specs.Live.{HasItsBuffer, HasRoomFor, IsLiveSubscriber, IsNewIn, subscriber_box, subscriber_port, waiting, IsAwaited, NoneRefused, IsPublisherKey, publisher_key};
+ghost use Rattle.iox2_pubsub.specs.Live.{HasItsBuffer, HasRoomFor, IsLiveSubscriber, IsNewIn, subscriber_box};
+ghost use Rattle.iox2_pubsub.specs.Live.{subscriber_port, waiting, IsAwaited, NoneRefused, IsPublisherKey};
+ghost use Rattle.iox2_pubsub.specs.Live.{publisher_key};
 ghost use Rattle.iox2_pubsub.specs.Leaves.{Leaves};
 ghost use Rattle.iox2_pubsub.specs.Factories.{receiver_with_degradation};
 ghost use Rattle.iox2_domain.specs.Shows.{Shows};
@@ -135,7 +137,9 @@ impl<G: DegradationFn, H: PortHandle<Subscriber>> PortFactorySubscriber<G, H> {
         domain: &mut Domain<T, U, F, G>,
     ) -> Result<H, SubscriberCreateError>
         ensures creates { (m : Messages T U) (s : State T U) → Shows domain.old m s → (s' : State T U) × Shows domain.new m s' × MatchResult result
-            (λ subscriber. CreateSubscriber (answers_of F.allows G.allows (domain.new.boxes).subscribers) s self.settings s' None × (subscriber_id (H.as_port subscriber) ≡ s.next_port) × (buffer_size_of (H.as_port subscriber) ≡ buffer_for self.settings))
+            (λ subscriber. CreateSubscriber (answers_of F.allows G.allows (domain.new.boxes).subscribers) s
+            self.settings s' None × (subscriber_id (H.as_port subscriber) ≡ s.next_port)
+            × (buffer_size_of (H.as_port subscriber) ≡ buffer_for self.settings))
             (λ error. CreateSubscriber (answers_of F.allows G.allows (domain.new.boxes).subscribers) s self.settings s' (Some error)) }
         ensures live { IfOk result (λ subscriber. IsLiveSubscriber domain.new (H.as_port subscriber)) }
         ensures buffer { IfOk result (λ subscriber. HasItsBuffer domain.new (H.as_port subscriber)) }
@@ -143,8 +147,11 @@ impl<G: DegradationFn, H: PortHandle<Subscriber>> PortFactorySubscriber<G, H> {
         ensures new { IfOk result (λ subscriber. IsNewIn domain.old (subscriber_port (H.as_port subscriber))) }
         ensures none { IfOk result (λ subscriber. waiting domain.new (H.as_port subscriber) ≡ 0) }
         ensures borrows { IfOk result (λ subscriber. HasBorrowsLeft domain.new (H.as_port subscriber) (domain.old.config).subscriber_max_borrowed_samples) }
-        ensures awaits { IfOk result (λ subscriber. NoneRefused domain.old domain.new → (publisher : Publisher) → IsPublisherKey domain.old (publisher_key publisher) → IsAwaited domain.new (publisher_id publisher) (H.as_port subscriber)) }
-        ensures room { IfOk result (λ subscriber. (closes : ℕ) → closes ≤ expired_limit domain.old.config → HasRoomFor domain.new (H.as_port subscriber) closes) }
+        ensures awaits { IfOk result (λ subscriber. NoneRefused domain.old domain.new → (publisher : Publisher)
+            → IsPublisherKey domain.old (publisher_key publisher)
+            → IsAwaited domain.new (publisher_id publisher) (H.as_port subscriber)) }
+        ensures room { IfOk result (λ subscriber. (closes : ℕ) → closes ≤ expired_limit domain.old.config
+            → HasRoomFor domain.new (H.as_port subscriber) closes) }
         ensures leaves { Leaves domain.old domain.new }
     {
         let service_id = domain.state.config().service_id;

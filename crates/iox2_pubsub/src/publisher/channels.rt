@@ -33,7 +33,9 @@ impl Publisher {
         requires there { IsPublisherKey domain.now (publisher_key self.now) }
         requires placed { IsPlacedPublisher domain.now self.now }
         ensures place { (m : Messages T U) (s : State T U) → Shows domain.now m s → result ≡ connection_place s (publisher_id self.now) receiver_port_id }
-        ensures at { IfSome result (λ connection. (subscriber : Subscriber) → subscriber_id subscriber ≡ receiver_port_id → IsAtConnection domain.now (publisher_id self.now) connection subscriber) }
+        ensures at { IfSome result (λ connection. (subscriber : Subscriber)
+            → subscriber_id subscriber ≡ receiver_port_id
+            → IsAtConnection domain.now (publisher_id self.now) connection subscriber) }
     {
         place_of_receiver(&domain.state, self.place, receiver_port_id)
     }
@@ -98,9 +100,12 @@ impl Publisher {
         requires there { IsPublisherKey domain.old (publisher_key self.now) }
         requires placed { IsPlacedPublisher domain.old self.now }
         requires channel { channel < channel_count domain.old.config }
-        ensures closed { (m : Messages T U) (s : State T U) → Shows domain.old m s → Shows domain.new m (sent_closed s (publisher_id self.now) channel connection expected) }
+        ensures closed { (m : Messages T U) (s : State T U) → Shows domain.old m s
+            → Shows domain.new m (sent_closed s (publisher_id self.now) channel connection expected) }
         ensures leaves { LeavesButChannels
-            (λ publisher subscriber. (publisher ≢ publisher_id self.now) ⊎ (connection_place (state_of domain.old) publisher (subscriber_id subscriber) ≢ Some connection) ⊎ (channel ≢ 0))
+            (λ publisher subscriber. (publisher ≢ publisher_id self.now)
+            ⊎ (connection_place (state_of domain.old) publisher (subscriber_id subscriber) ≢ Some connection)
+            ⊎ (channel ≢ 0))
             domain.old domain.new }
     {
         close_sent(&mut domain.state, self.place, channel, connection, expected);

@@ -11,7 +11,9 @@ impl Publisher {
     ghost use Rattle.iox2_machine.specs.machine.Ports.{publisher_closed};
     ghost use Rattle.iox2_machine.specs.machine.Records.{Publisher as Record};
     ghost use Rattle.iox2_machine.specs.machine.State.{State, Messages};
-    ghost use Rattle.iox2_pubsub.specs.Live.{HasRoomFor, IsConnected, IsPublisherKey, IsReadyPublisher, IsUpToDate, StaysBut, degradation_box, handler_box, publisher_key, publisher_port, payloads_from, waiting};
+    ghost use Rattle.iox2_pubsub.specs.Live.{HasRoomFor, IsConnected, IsPublisherKey, IsReadyPublisher, IsUpToDate};
+    ghost use Rattle.iox2_pubsub.specs.Live.{StaysBut, degradation_box, handler_box, publisher_key, publisher_port};
+    ghost use Rattle.iox2_pubsub.specs.Live.{payloads_from, waiting};
     ghost use Rattle.iox2_pubsub.specs.BorrowsLeft.{BorrowsLeftStay};
     ghost use Rattle.iox2_pubsub.specs.LoansLeft.{NumbersLeftStay, OthersLoansLeftStay};
     ghost use Rattle.iox2_pubsub.specs.declared.subscriber.Subscriber.{Subscriber};
@@ -37,7 +39,8 @@ impl Publisher {
         ensures no_fewer { (subscriber : Subscriber) → IsUpToDate domain.old subscriber → waiting domain.old subscriber ≤ waiting domain.new subscriber }
         ensures keeps { (publisher : ℕ) (subscriber : Subscriber) → IsUpToDate domain.old subscriber → IsConnected domain.old publisher subscriber
             → payloads_from domain.new publisher subscriber ≡ payloads_from domain.old publisher subscriber }
-        ensures connections { (publisher : ℕ) (subscriber : Subscriber) → publisher ≢ publisher_id self → IsConnected domain.old publisher subscriber → IsConnected domain.new publisher subscriber }
+        ensures connections { (publisher : ℕ) (subscriber : Subscriber) → publisher ≢ publisher_id self
+            → IsConnected domain.old publisher subscriber → IsConnected domain.new publisher subscriber }
         ensures room { (subscriber : Subscriber) (closes : ℕ) → HasRoomFor domain.old subscriber (suc closes) → HasRoomFor domain.new subscriber closes }
         ensures loans_left { OthersLoansLeftStay self domain.old domain.new }
         ensures numbers_left { NumbersLeftStay domain.old domain.new }

@@ -25,7 +25,8 @@ impl Publisher {
     ) -> Result<SampleMut, LoanError>
         requires ready { IsReadyPublisher domain.old self.now }
         requires single_valued { IsSingleValued domain.old }
-        ensures lends { TakesStep domain.old domain.new (λ before after. WrittenLoanCall T.is_default U.is_default before (publisher_id self.now) result after) }
+        ensures lends { TakesStep domain.old domain.new
+            (λ before after. WrittenLoanCall T.is_default U.is_default before (publisher_id self.now) result after) }
         ensures granted { (loans numbers : ℕ) → HasLoansLeft domain.old self.now (loans + 1) → HasNumbersLeft domain.old (numbers + 1) → IsOk result }
         ensures loan { IfOk result (λ loan. IsLentWritten self.now loan domain.old domain.new) }
         ensures reads { IfOk result (λ loan. (value : T) × T.is_default value × LoanReads domain.new loan value) }

@@ -22,7 +22,8 @@ impl<T: Drop, U: Default + Drop, F: BackpressureFn, G: DegradationFn> UpdateConn
 
     ghost live_stays = { ready_stays };
 
-    ghost updates = { λ old s publisher s' failure. UpdatePublisher (answers_of F.allows G.allows (old.boxes).publishers) s (publisher_id publisher) s' failure };
+    ghost updates = { λ old s publisher s' failure. UpdatePublisher
+        (answers_of F.allows G.allows (old.boxes).publishers) s (publisher_id publisher) s' failure };
 
     ghost is_updated = { λ domain publisher. Unit {0} };
 

@@ -16,7 +16,9 @@ impl SampleMut {
     ghost use Rattle.iox2_machine.specs.machine.Records.{Loan};
     ghost use Rattle.iox2_machine.specs.machine.State.{State, Messages};
     ghost use Rattle.iox2_pubsub.specs.Counts.{HaveTaken};
-    ghost use Rattle.iox2_pubsub.specs.Live.{AddAtMost, AllFrom, HasItsBuffer, IsAtConnection, IsConnected, IsServed, IsServedOrPending, IsUnblocked, IsWritten, WaitsAsBefore, payloads_from, waiting, written_key};
+    ghost use Rattle.iox2_pubsub.specs.Live.{AddAtMost, AllFrom, HasItsBuffer, IsAtConnection, IsConnected};
+    ghost use Rattle.iox2_pubsub.specs.Live.{IsServed, IsServedOrPending, IsUnblocked, IsWritten, WaitsAsBefore};
+    ghost use Rattle.iox2_pubsub.specs.Live.{payloads_from, waiting, written_key};
     ghost use Rattle.iox2_pubsub.specs.Slices.{HasValues};
     ghost use Rattle.iox2_pubsub.specs.declared.subscriber.Subscriber.{Subscriber};
     ghost use Rattle.iox2_pubsub.specs.SendCalls.{FailsDelivery, IfBlocked, IsDelivered, SendsToConnection, SpendsLoan, messages_after_send};
@@ -65,21 +67,46 @@ impl SampleMut {
         ensures sent { (m : Messages T U) (s : State T U) (l : Loan T U) → Shows domain.old m s → s.loans (written_number self) ≡ Some l
             → (s' : State T U) × Shows domain.new (messages_after_send m (written_number self) l result) s'
             × SendsToConnection (answers_of F.allows G.allows (domain.old.boxes).publishers) s (written_number self) l channel connection result s' }
-        ensures roomy { (subscriber : Subscriber) → channel ≡ 0 → IsAtConnection domain.old (written_lender self) connection subscriber → IsConnected domain.old (written_lender self) subscriber → HasItsBuffer domain.old subscriber
-            → length (payloads_from domain.old (written_lender self) subscriber) < buffer_size_of subscriber → IfOk result IsDelivered × IfErr result (λ error. error ≢ UnableToDeliver) }
+        ensures roomy { (subscriber : Subscriber) → channel ≡ 0
+            → IsAtConnection domain.old (written_lender self) connection subscriber
+            → IsConnected domain.old (written_lender self) subscriber → HasItsBuffer domain.old subscriber
+            → length (payloads_from domain.old (written_lender self) subscriber) < buffer_size_of subscriber
+            → IfOk result IsDelivered × IfErr result (λ error. error ≢ UnableToDeliver) }
         ensures adds { AddAtMost 1 domain.old domain.new }
-        ensures serves { (subscriber : Subscriber) (values : List T) → channel ≡ 0 → IsAtConnection domain.old (written_lender self) connection subscriber → IsConnected domain.old (written_lender self) subscriber
-            → HasValues domain.old (written_number self) values → IfOk result (λ outcome. IsDelivered outcome → IsServed domain.old domain.new (written_lender self) subscriber values) }
-        ensures arrives { (subscriber : Subscriber) (values : List T) → channel ≡ 0 → IsAtConnection domain.old (written_lender self) connection subscriber → waiting domain.old subscriber ≡ 0 → IsConnected domain.old (written_lender self) subscriber
-            → HasValues domain.old (written_number self) values → IfOk result (λ outcome. IsDelivered outcome → AllFrom domain.new (written_lender self) subscriber (values ∷ [])) }
-        ensures joins { (subscriber : Subscriber) (values : List T) (earlier : List (List T)) → channel ≡ 0 → IsAtConnection domain.old (written_lender self) connection subscriber → AllFrom domain.old (written_lender self) subscriber earlier
-            → HasItsBuffer domain.old subscriber → length earlier < buffer_size_of subscriber → IsConnected domain.old (written_lender self) subscriber → HasValues domain.old (written_number self) values
+        ensures serves { (subscriber : Subscriber) (values : List T) → channel ≡ 0
+            → IsAtConnection domain.old (written_lender self) connection subscriber
+            → IsConnected domain.old (written_lender self) subscriber
+            → HasValues domain.old (written_number self) values
+            → IfOk result (λ outcome. IsDelivered outcome
+            → IsServed domain.old domain.new (written_lender self) subscriber values) }
+        ensures arrives { (subscriber : Subscriber) (values : List T) → channel ≡ 0
+            → IsAtConnection domain.old (written_lender self) connection subscriber
+            → waiting domain.old subscriber ≡ 0 → IsConnected domain.old (written_lender self) subscriber
+            → HasValues domain.old (written_number self) values
+            → IfOk result (λ outcome. IsDelivered outcome
+            → AllFrom domain.new (written_lender self) subscriber (values ∷ [])) }
+        ensures joins { (subscriber : Subscriber) (values : List T) (earlier : List (List T)) → channel ≡ 0
+            → IsAtConnection domain.old (written_lender self) connection subscriber
+            → AllFrom domain.old (written_lender self) subscriber earlier
+            → HasItsBuffer domain.old subscriber → length earlier < buffer_size_of subscriber
+            → IsConnected domain.old (written_lender self) subscriber
+            → HasValues domain.old (written_number self) values
             → IfOk result (λ outcome. IsDelivered outcome → AllFrom domain.new (written_lender self) subscriber (earlier ++ values ∷ [])) }
-        ensures alone { (other : Subscriber) → (channel ≡ 0 → IsAtConnection domain.old (written_lender self) connection other → ⊥) → WaitsAsBefore domain.old domain.new other }
-        ensures pending { (subscriber : Subscriber) (values : List T) → channel ≡ 0 → IsAtConnection domain.old (written_lender self) connection subscriber → IsConnected domain.old (written_lender self) subscriber
-            → HasValues domain.old (written_number self) values → IfOk result (λ outcome. IfBlocked outcome (λ blocked. IsServedOrPending domain.old domain.new blocked subscriber values)) }
-        ensures counts { (subscriber : Subscriber) (values : List T) → channel ≡ 0 → IsAtConnection domain.old (written_lender self) connection subscriber → IsConnected domain.old (written_lender self) subscriber
-            → HasValues domain.old (written_number self) values → IfOk result (λ outcome. (count : ℕ) → outcome ≡ SendOutcome.Delivered count → HaveTaken domain.old domain.new (written_lender self) values (subscriber ∷ []) count) }
+        ensures alone { (other : Subscriber) → (channel ≡ 0
+            → IsAtConnection domain.old (written_lender self) connection other → ⊥)
+            → WaitsAsBefore domain.old domain.new other }
+        ensures pending { (subscriber : Subscriber) (values : List T) → channel ≡ 0
+            → IsAtConnection domain.old (written_lender self) connection subscriber
+            → IsConnected domain.old (written_lender self) subscriber
+            → HasValues domain.old (written_number self) values
+            → IfOk result (λ outcome. IfBlocked outcome
+            (λ blocked. IsServedOrPending domain.old domain.new blocked subscriber values)) }
+        ensures counts { (subscriber : Subscriber) (values : List T) → channel ≡ 0
+            → IsAtConnection domain.old (written_lender self) connection subscriber
+            → IsConnected domain.old (written_lender self) subscriber
+            → HasValues domain.old (written_number self) values
+            → IfOk result (λ outcome. (count : ℕ) → outcome ≡ SendOutcome.Delivered count
+            → HaveTaken domain.old domain.new (written_lender self) values (subscriber ∷ []) count) }
         ensures spends { SpendsLoan self result domain.old domain.new }
     {
         let SampleMut { service_id, loan } = self;

@@ -15,7 +15,8 @@ impl SampleMut {
     ghost use Rattle.iox2_domain.specs.Shows.{Shows};
     ghost use Rattle.iox2_domain.specs.LoanCalls.{first_cell_changed};
     ghost use Rattle.iox2_pubsub.specs.ChangedLoans.{with_payload};
-    ghost use Rattle.iox2_pubsub.specs.Live.{IsSingleValued, IsWritten, IsWrittenLoan, LoanHasHeader, LoanHasUserHeader, LoanReads, NeverWaits, written_key, written_loan};
+    ghost use Rattle.iox2_pubsub.specs.Live.{IsSingleValued, IsWritten, IsWrittenLoan, LoanHasHeader};
+    ghost use Rattle.iox2_pubsub.specs.Live.{LoanHasUserHeader, LoanReads, NeverWaits, written_key, written_loan};
     ghost use Rattle.iox2_pubsub.specs.Leaves.{LeavesBut};
     ghost use Rattle.iox2_pubsub.specs.LoanLends.{LendsPayload};
     ghost use Rattle.iox2_pubsub.specs.Handles.{written_number};
@@ -37,9 +38,11 @@ impl SampleMut {
         ensures payload { LoanReads domain.old sample.old result.now }
         ensures changes { (m : Messages T U) (s : State T U) (value : T) → Shows domain.old m s
             → (l : Loan T U) × (s.loans (written_number sample.old) ≡ Some l)
-            × Shows (with_payload domain.old (written_number sample.old) value) m (with_loan s (written_number sample.old) (Some (first_cell_changed (Some value) l))) }
+            × Shows (with_payload domain.old (written_number sample.old) value) m
+            (with_loan s (written_number sample.old) (Some (first_cell_changed (Some value) l))) }
         ensures out { (value : T) → IsWritten (with_payload domain.old (written_number sample.old) value) sample.old }
-        ensures live { NeverWaits domain.old (written_key sample.old) → (value : T) → IsWrittenLoan (with_payload domain.old (written_number sample.old) value) sample.old }
+        ensures live { NeverWaits domain.old (written_key sample.old) → (value : T)
+            → IsWrittenLoan (with_payload domain.old (written_number sample.old) value) sample.old }
         ensures reads { (value : T) → LoanReads (with_payload domain.old (written_number sample.old) value) sample.old value }
         ensures header { (value : T) (header : Header) → LoanHasHeader domain.old (written_key sample.old) header
             → LoanHasHeader (with_payload domain.old (written_number sample.old) value) (written_key sample.new) header }

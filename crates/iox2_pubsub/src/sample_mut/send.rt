@@ -26,7 +26,9 @@ impl SampleMut {
     ghost use Rattle.iox2_machine.specs.declared.errors.SendError.TheVariants.{UnableToDeliver};
     ghost use Rattle.iox2_machine.specs.machine.Records.{Loan};
     ghost use Rattle.iox2_machine.specs.machine.State.{State, Messages};
-    ghost use Rattle.iox2_pubsub.specs.Live.{AllFrom, HasItsBuffer, IsConnected, IsConsistent, IsFull, IsServed, IsServedOrPending, IsUnblocked, IsWritten, written_key, AddAtMost, AreAllSlices, payloads, waiting};
+    ghost use Rattle.iox2_pubsub.specs.Live.{AllFrom, HasItsBuffer, IsConnected, IsConsistent, IsFull, IsServed};
+    ghost use Rattle.iox2_pubsub.specs.Live.{IsServedOrPending, IsUnblocked, IsWritten, written_key, AddAtMost};
+    ghost use Rattle.iox2_pubsub.specs.Live.{AreAllSlices, payloads, waiting};
     ghost use Rattle.iox2_pubsub.specs.AllSubscribers.{AreConnected, AreDifferent};
     ghost use Rattle.iox2_pubsub.specs.BlockedSends.{IsNext};
     ghost use Rattle.iox2_pubsub.specs.Counts.{Counts};
@@ -65,28 +67,50 @@ impl SampleMut {
         requires unblocked { IsUnblocked domain.old (written_key self) }
         ensures errors { IfErr result (FailsSend domain.old (written_key self)) }
         ensures sent { (m : Messages T U) (s : State T U) (l : Loan T U) → Shows domain.old m s → s.loans (written_number self) ≡ Some l
-            → (s' : State T U) × Shows domain.new (messages_after_send m (written_number self) l result) s' × Sends (answers_of F.allows G.allows (domain.old.boxes).publishers) s (written_number self) l result s' }
+            → (s' : State T U) × Shows domain.new (messages_after_send m (written_number self) l result) s'
+            × Sends (answers_of F.allows G.allows (domain.old.boxes).publishers) s (written_number self) l result
+            s' }
         ensures consistent { IsConsistent domain.old }
         ensures roomy { IsRoomy domain.old (written_lender self) → IfOk result IsDelivered × IfErr result (λ error. error ≢ UnableToDeliver) }
-        ensures roomy_alone { (subscriber : Subscriber) → HasRoomAlone domain.old (written_lender self) subscriber → IfOk result IsDelivered × IfErr result (λ error. error ≢ UnableToDeliver) }
-        ensures roomy_at_all { (subscribers : List Subscriber) → HasRoomAtAll domain.old (written_lender self) subscribers → IfOk result IsDelivered × IfErr result (λ error. error ≢ UnableToDeliver) }
+        ensures roomy_alone { (subscriber : Subscriber) → HasRoomAlone domain.old (written_lender self) subscriber
+            → IfOk result IsDelivered × IfErr result (λ error. error ≢ UnableToDeliver) }
+        ensures roomy_at_all { (subscribers : List Subscriber)
+            → HasRoomAtAll domain.old (written_lender self) subscribers → IfOk result IsDelivered
+            × IfErr result (λ error. error ≢ UnableToDeliver) }
         ensures adds { AddAtMost ((domain.old.config).history_size + 1) domain.old domain.new }
         ensures brings { (subscriber : Subscriber) (values : List T) → (domain.old.config).history_size ≡ 0 → waiting domain.old subscriber ≡ 0
             → HasValues domain.old (written_number self) values → AreAllSlices (payloads domain.new subscriber) values }
-        ensures serves { (subscriber : Subscriber) (values : List T) → IsConnected domain.old (written_lender self) subscriber → HasValues domain.old (written_number self) values
+        ensures serves { (subscriber : Subscriber) (values : List T)
+            → IsConnected domain.old (written_lender self) subscriber
+            → HasValues domain.old (written_number self) values
             → IfOk result (λ outcome. IsDelivered outcome → IsServed domain.old domain.new (written_lender self) subscriber values) }
-        ensures arrives { (subscriber : Subscriber) (values : List T) → waiting domain.old subscriber ≡ 0 → IsConnected domain.old (written_lender self) subscriber
-            → HasValues domain.old (written_number self) values → IfOk result (λ outcome. IsDelivered outcome → AllFrom domain.new (written_lender self) subscriber (values ∷ [])) }
-        ensures joins { (subscriber : Subscriber) (values : List T) (earlier : List (List T)) → AllFrom domain.old (written_lender self) subscriber earlier → HasItsBuffer domain.old subscriber
-            → length earlier < buffer_size_of subscriber → IsConnected domain.old (written_lender self) subscriber → HasValues domain.old (written_number self) values
+        ensures arrives { (subscriber : Subscriber) (values : List T) → waiting domain.old subscriber ≡ 0
+            → IsConnected domain.old (written_lender self) subscriber
+            → HasValues domain.old (written_number self) values
+            → IfOk result (λ outcome. IsDelivered outcome
+            → AllFrom domain.new (written_lender self) subscriber (values ∷ [])) }
+        ensures joins { (subscriber : Subscriber) (values : List T) (earlier : List (List T))
+            → AllFrom domain.old (written_lender self) subscriber earlier → HasItsBuffer domain.old subscriber
+            → length earlier < buffer_size_of subscriber → IsConnected domain.old (written_lender self) subscriber
+            → HasValues domain.old (written_number self) values
             → IfOk result (λ outcome. IsDelivered outcome → AllFrom domain.new (written_lender self) subscriber (earlier ++ values ∷ [])) }
-        ensures pending { (subscriber : Subscriber) (values : List T) → IsConnected domain.old (written_lender self) subscriber → HasValues domain.old (written_number self) values
+        ensures pending { (subscriber : Subscriber) (values : List T)
+            → IsConnected domain.old (written_lender self) subscriber
+            → HasValues domain.old (written_number self) values
             → IfOk result (λ outcome. IfBlocked outcome (λ blocked. IsServedOrPending domain.old domain.new blocked subscriber values)) }
-        ensures failed { (subscriber : Subscriber) (values : List T) → IsConnected domain.old (written_lender self) subscriber → HasValues domain.old (written_number self) values → IfErr result (AfterError domain.old domain.new (written_lender self) subscriber values) }
+        ensures failed { (subscriber : Subscriber) (values : List T)
+            → IsConnected domain.old (written_lender self) subscriber
+            → HasValues domain.old (written_number self) values
+            → IfErr result (AfterError domain.old domain.new (written_lender self) subscriber values) }
         ensures full { (subscriber : Subscriber) → IsConnected domain.old (written_lender self) subscriber
-            → IfOk result (λ outcome. IfBlocked outcome (λ blocked. IsNext domain.new blocked subscriber → IsFull domain.old (written_lender self) subscriber)) }
-        ensures counts { (subscribers : List Subscriber) (values : List T) → AreDifferent subscribers → AreConnected domain.old (written_lender self) subscribers → HasValues domain.old (written_number self) values
-            → IfOk result (λ outcome. (count : ℕ) → outcome ≡ SendOutcome.Delivered count → Counts domain.old domain.new (written_lender self) values subscribers count) }
+            → IfOk result (λ outcome. IfBlocked outcome
+            (λ blocked. IsNext domain.new blocked subscriber
+            → IsFull domain.old (written_lender self) subscriber)) }
+        ensures counts { (subscribers : List Subscriber) (values : List T) → AreDifferent subscribers
+            → AreConnected domain.old (written_lender self) subscribers
+            → HasValues domain.old (written_number self) values
+            → IfOk result (λ outcome. (count : ℕ) → outcome ≡ SendOutcome.Delivered count
+            → Counts domain.old domain.new (written_lender self) values subscribers count) }
         ensures spends { SpendsLoan self result domain.old domain.new }
     {
         let SampleMut { service_id, loan } = self;

@@ -36,15 +36,20 @@ impl SampleMut {
         ensures user_header { LoanHasUserHeader domain.old (written_key sample.old) result.now }
         ensures changes { (m : Messages T U) (s : State T U) (user_header : U) → Shows domain.old m s
             → (l : Loan T U) × (s.loans (written_number sample.old) ≡ Some l)
-            × Shows (with_user_header_left domain.old (written_number sample.old) user_header) m (with_loan s (written_number sample.old) (Some (user_header_changed user_header l))) }
+            × Shows (with_user_header_left domain.old (written_number sample.old) user_header) m
+            (with_loan s (written_number sample.old) (Some (user_header_changed user_header l))) }
         ensures out { (user_header : U) → IsWritten (with_user_header_left domain.old (written_number sample.old) user_header) sample.old }
-        ensures live { NeverWaits domain.old (written_key sample.old) → (user_header : U) → IsWrittenLoan (with_user_header_left domain.old (written_number sample.old) user_header) sample.old }
-        ensures is { (user_header : U) → LoanHasUserHeader (with_user_header_left domain.old (written_number sample.old) user_header) (written_key sample.old) user_header }
+        ensures live { NeverWaits domain.old (written_key sample.old) → (user_header : U)
+            → IsWrittenLoan (with_user_header_left domain.old (written_number sample.old) user_header) sample.old }
+        ensures is { (user_header : U) → LoanHasUserHeader
+            (with_user_header_left domain.old (written_number sample.old) user_header) (written_key sample.old)
+            user_header }
         ensures reads { (user_header : U) (values : List T) → HasValues domain.old (written_number sample.old) values
             → HasValues (with_user_header_left domain.old (written_number sample.old) user_header) (written_number sample.old) values }
         ensures header { (user_header : U) (header : Header) → LoanHasHeader domain.old (written_key sample.old) header
             → LoanHasHeader (with_user_header_left domain.old (written_number sample.old) user_header) (written_key sample.new) header }
-        ensures leaves { (user_header : U) → LeavesBut (written_loan sample.old) domain.old (with_user_header_left domain.old (written_number sample.old) user_header) }
+        ensures leaves { (user_header : U) → LeavesBut (written_loan sample.old) domain.old
+            (with_user_header_left domain.old (written_number sample.old) user_header) }
     {
         let at = find_live_loan(&domain.state, &sample.loan);
         user_header_at_mut(&mut domain.state, at)

@@ -37,8 +37,10 @@ impl SampleMutUninit {
         ensures becomes { IfOk result (λ sample. BecomesWritten self sample domain.old domain.new) }
         ensures reads { (value : T) → UnwrittenReads domain.old self (Some value) → IsOkAnd result (λ sample. LoanReads domain.new sample value) }
         ensures refused { UnwrittenReads domain.old self None → IsErr result }
-        ensures all_read { (values : List T) → HasUnwrittenCells domain.old (unwritten_number self) (map Some values) → IsOkAnd result (λ sample. HasValues domain.new (written_number sample) values) }
-        ensures some_unwritten { (cells : List (Option T)) → HasUnwrittenCells domain.old (unwritten_number self) cells → list_all is_some cells ≡ false → IsErr result }
+        ensures all_read { (values : List T) → HasUnwrittenCells domain.old (unwritten_number self) (map Some values)
+            → IsOkAnd result (λ sample. HasValues domain.new (written_number sample) values) }
+        ensures some_unwritten { (cells : List (Option T)) → HasUnwrittenCells domain.old (unwritten_number self)
+            cells → list_all is_some cells ≡ false → IsErr result }
         ensures handed_back { MatchResult result (λ _. self ≡ self) (λ loan. (loan ≡ self) × (domain.new ≡ domain.old)) }
         ensures leaves { LeavesBut (unwritten_loan self) domain.old domain.new }
     {

@@ -15,7 +15,9 @@ impl SampleMutUninit {
     ghost use Rattle.iox2_domain.specs.LoanCalls.{first_cell_changed};
     ghost use Rattle.iox2_domain.specs.Shows.{Shows};
     ghost use Rattle.iox2_pubsub.specs.ChangedLoans.{with_cell_left};
-    ghost use Rattle.iox2_pubsub.specs.Live.{IsSingleValued, IsUnwritten, NeverWaitsUnwritten, LoanHasHeader, LoanHasUserHeader, NeverWaits, UnwrittenReads, unwritten_key, unwritten_loan};
+    ghost use Rattle.iox2_pubsub.specs.Live.{IsSingleValued, IsUnwritten, NeverWaitsUnwritten, LoanHasHeader};
+    ghost use Rattle.iox2_pubsub.specs.Live.{LoanHasUserHeader, NeverWaits, UnwrittenReads, unwritten_key};
+    ghost use Rattle.iox2_pubsub.specs.Live.{unwritten_loan};
     ghost use Rattle.iox2_pubsub.specs.Leaves.{LeavesBut};
     ghost use Rattle.iox2_pubsub.specs.LoanLends.{LendsCell};
     ghost use Rattle.iox2_pubsub.specs.Handles.{unwritten_number};
@@ -37,9 +39,11 @@ impl SampleMutUninit {
         ensures payload { UnwrittenReads domain.old sample.old result.now }
         ensures changes { (m : Messages T U) (s : State T U) (cell : Option T) → Shows domain.old m s
             → (l : Loan T U) × (s.loans (unwritten_number sample.old) ≡ Some l)
-            × Shows (with_cell_left domain.old (unwritten_number sample.old) cell) m (with_loan s (unwritten_number sample.old) (Some (first_cell_changed cell l))) }
+            × Shows (with_cell_left domain.old (unwritten_number sample.old) cell) m
+            (with_loan s (unwritten_number sample.old) (Some (first_cell_changed cell l))) }
         ensures out { (cell : Option T) → IsUnwritten (with_cell_left domain.old (unwritten_number sample.old) cell) sample.old }
-        ensures live { NeverWaits domain.old (unwritten_key sample.old) → (cell : Option T) → NeverWaitsUnwritten (with_cell_left domain.old (unwritten_number sample.old) cell) sample.old }
+        ensures live { NeverWaits domain.old (unwritten_key sample.old) → (cell : Option T)
+            → NeverWaitsUnwritten (with_cell_left domain.old (unwritten_number sample.old) cell) sample.old }
         ensures reads { (cell : Option T) → UnwrittenReads (with_cell_left domain.old (unwritten_number sample.old) cell) sample.old cell }
         ensures header { (cell : Option T) (header : Header) → LoanHasHeader domain.old (unwritten_key sample.old) header
             → LoanHasHeader (with_cell_left domain.old (unwritten_number sample.old) cell) (unwritten_key sample.new) header }

@@ -36,15 +36,21 @@ impl SampleMutUninit {
         ensures user_header { LoanHasUserHeader domain.old (unwritten_key sample.old) result.now }
         ensures changes { (m : Messages T U) (s : State T U) (user_header : U) → Shows domain.old m s
             → (l : Loan T U) × (s.loans (unwritten_number sample.old) ≡ Some l)
-            × Shows (with_user_header_left domain.old (unwritten_number sample.old) user_header) m (with_loan s (unwritten_number sample.old) (Some (user_header_changed user_header l))) }
+            × Shows (with_user_header_left domain.old (unwritten_number sample.old) user_header) m
+            (with_loan s (unwritten_number sample.old) (Some (user_header_changed user_header l))) }
         ensures out { (user_header : U) → IsUnwritten (with_user_header_left domain.old (unwritten_number sample.old) user_header) sample.old }
-        ensures live { NeverWaits domain.old (unwritten_key sample.old) → (user_header : U) → NeverWaitsUnwritten (with_user_header_left domain.old (unwritten_number sample.old) user_header) sample.old }
-        ensures is { (user_header : U) → LoanHasUserHeader (with_user_header_left domain.old (unwritten_number sample.old) user_header) (unwritten_key sample.old) user_header }
+        ensures live { NeverWaits domain.old (unwritten_key sample.old) → (user_header : U)
+            → NeverWaitsUnwritten (with_user_header_left domain.old (unwritten_number sample.old) user_header)
+            sample.old }
+        ensures is { (user_header : U) → LoanHasUserHeader
+            (with_user_header_left domain.old (unwritten_number sample.old) user_header) (unwritten_key sample.old)
+            user_header }
         ensures reads { (user_header : U) (cells : List (Option T)) → HasUnwrittenCells domain.old (unwritten_number sample.old) cells
             → HasUnwrittenCells (with_user_header_left domain.old (unwritten_number sample.old) user_header) (unwritten_number sample.old) cells }
         ensures header { (user_header : U) (header : Header) → LoanHasHeader domain.old (unwritten_key sample.old) header
             → LoanHasHeader (with_user_header_left domain.old (unwritten_number sample.old) user_header) (unwritten_key sample.new) header }
-        ensures leaves { (user_header : U) → LeavesBut (unwritten_loan sample.old) domain.old (with_user_header_left domain.old (unwritten_number sample.old) user_header) }
+        ensures leaves { (user_header : U) → LeavesBut (unwritten_loan sample.old) domain.old
+            (with_user_header_left domain.old (unwritten_number sample.old) user_header) }
     {
         let at = find_live_loan(&domain.state, &sample.loan);
         user_header_at_mut(&mut domain.state, at)

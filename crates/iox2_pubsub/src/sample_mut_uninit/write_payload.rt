@@ -27,7 +27,9 @@ impl SampleMutUninit {
     ) -> SampleMut
         requires live { IsUnwritten domain.old self }
         requires single_valued { IsSingleValued domain.old }
-        ensures written { (m : Messages T U) (s : State T U) → Shows domain.old m s → (l : Loan T U) × (s.loans (unwritten_number self) ≡ Some l) × Shows domain.new m (with_loan s (unwritten_number self) (Some (written l value))) }
+        ensures written { (m : Messages T U) (s : State T U) → Shows domain.old m s → (l : Loan T U)
+            × (s.loans (unwritten_number self) ≡ Some l)
+            × Shows domain.new m (with_loan s (unwritten_number self) (Some (written l value))) }
         ensures reads { LoanReads domain.new result value }
         ensures becomes { BecomesWritten self result domain.old domain.new }
     {

@@ -57,7 +57,15 @@ impl<T: Drop, U: Default + Drop, F: BackpressureFn, G: DegradationFn> Domain<T, 
     ///
     /// iceoryx2's `publisher_builder` of a service's factory of ports.
     pub fn slice_publisher_builder(&self) -> PortFactoryPublisher<F, G>
-        ensures { result ≡ record { settings = record (plain_publisher (self.now.config).publisher_max_loaned_samples (self.now.config).backpressure_strategy 1) { allocation_strategy = (self.now.config).publisher_allocation_strategy }; box = None; degradation_box = None; preallocated = record {} } }
+        ensures { result ≡ record {
+          settings = record
+              (plain_publisher (self.now.config).publisher_max_loaned_samples (self.now.config).backpressure_strategy 1)
+              { allocation_strategy = (self.now.config).publisher_allocation_strategy };
+          box = None;
+          degradation_box =
+              None;
+          preallocated = record {};
+        } }
     {
         PortFactoryPublisher::with_settings_of(self.state.config())
     }

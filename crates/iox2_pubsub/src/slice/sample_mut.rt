@@ -38,11 +38,15 @@ impl SampleMut {
     ghost use Rattle.iox2_pubsub.specs.AllSubscribers.{AreConnected, AreDifferent};
     ghost use Rattle.iox2_pubsub.specs.BlockedSends.{IsNext};
     ghost use Rattle.iox2_pubsub.specs.Counts.{Counts, HaveTaken};
-    ghost use Rattle.iox2_pubsub.specs.Live.{AddAtMost, AllFrom, AreAllSlices, HasItsBuffer, IsAtConnection, IsConnected, IsConsistent, IsFull, IsLoanKey, IsServed, IsServedOrPending, IsUnblocked, IsWritten, WaitsAsBefore, payloads, payloads_from, waiting, written_key};
+    ghost use Rattle.iox2_pubsub.specs.Live.{AddAtMost, AllFrom, AreAllSlices, HasItsBuffer, IsAtConnection};
+    ghost use Rattle.iox2_pubsub.specs.Live.{IsConnected, IsConsistent, IsFull, IsLoanKey, IsServed};
+    ghost use Rattle.iox2_pubsub.specs.Live.{IsServedOrPending, IsUnblocked, IsWritten, WaitsAsBefore, payloads};
+    ghost use Rattle.iox2_pubsub.specs.Live.{payloads_from, waiting, written_key};
     ghost use Rattle.iox2_pubsub.specs.declared.subscriber.Subscriber.{Subscriber};
     ghost use Rattle.iox2_pubsub.specs.LoanCalls.{IsDiscarded};
     ghost use Rattle.iox2_pubsub.specs.RoomyPublishers.{HasRoomAlone, HasRoomAtAll, IsRoomy};
-    ghost use Rattle.iox2_pubsub.specs.SendCalls.{AfterError, FailsDelivery, FailsSend, IfBlocked, IsDelivered, Sends, SendsToConnection, SpendsLoan, messages_after_send};
+    ghost use Rattle.iox2_pubsub.specs.SendCalls.{AfterError, FailsDelivery, FailsSend, IfBlocked, IsDelivered};
+    ghost use Rattle.iox2_pubsub.specs.SendCalls.{Sends, SendsToConnection, SpendsLoan, messages_after_send};
     ghost use Rattle.iox2_pubsub.specs.Slices.{HasValues, HoldsSlices};
     ghost use Rattle.iox2_pubsub.specs.Handles.{as_written, buffer_size_of, subscriber_id, written_lender, written_number};
 
@@ -74,28 +78,52 @@ impl SampleMut {
         requires unblocked { IsUnblocked domain.old (written_key (as_written self)) }
         ensures errors { IfErr result (FailsSend domain.old (written_key (as_written self))) }
         ensures sent { (m : Messages T U) (s : State T U) (l : Loan T U) → Shows domain.old m s → s.loans (written_number (as_written self)) ≡ Some l
-            → (s' : State T U) × Shows domain.new (messages_after_send m (written_number (as_written self)) l result) s' × Sends (answers_of F.allows G.allows (domain.old.boxes).publishers) s (written_number (as_written self)) l result s' }
+            → (s' : State T U) × Shows domain.new (messages_after_send m (written_number (as_written self)) l result)
+            s' × Sends (answers_of F.allows G.allows (domain.old.boxes).publishers) s
+            (written_number (as_written self)) l result s' }
         ensures consistent { IsConsistent domain.old }
         ensures roomy { IsRoomy domain.old (written_lender (as_written self)) → IfOk result IsDelivered × IfErr result (λ error. error ≢ UnableToDeliver) }
-        ensures roomy_alone { (subscriber : Subscriber) → HasRoomAlone domain.old (written_lender (as_written self)) subscriber → IfOk result IsDelivered × IfErr result (λ error. error ≢ UnableToDeliver) }
-        ensures roomy_at_all { (subscribers : List Subscriber) → HasRoomAtAll domain.old (written_lender (as_written self)) subscribers → IfOk result IsDelivered × IfErr result (λ error. error ≢ UnableToDeliver) }
+        ensures roomy_alone { (subscriber : Subscriber) → HasRoomAlone domain.old (written_lender (as_written self))
+            subscriber → IfOk result IsDelivered × IfErr result (λ error. error ≢ UnableToDeliver) }
+        ensures roomy_at_all { (subscribers : List Subscriber)
+            → HasRoomAtAll domain.old (written_lender (as_written self)) subscribers → IfOk result IsDelivered
+            × IfErr result (λ error. error ≢ UnableToDeliver) }
         ensures adds { AddAtMost ((domain.old.config).history_size + 1) domain.old domain.new }
         ensures brings { (subscriber : Subscriber) (values : List T) → (domain.old.config).history_size ≡ 0 → waiting domain.old subscriber ≡ 0
             → HasValues domain.old (written_number (as_written self)) values → AreAllSlices (payloads domain.new subscriber) values }
-        ensures serves { (subscriber : Subscriber) (values : List T) → IsConnected domain.old (written_lender (as_written self)) subscriber → HasValues domain.old (written_number (as_written self)) values
+        ensures serves { (subscriber : Subscriber) (values : List T)
+            → IsConnected domain.old (written_lender (as_written self)) subscriber
+            → HasValues domain.old (written_number (as_written self)) values
             → IfOk result (λ outcome. IsDelivered outcome → IsServed domain.old domain.new (written_lender (as_written self)) subscriber values) }
-        ensures arrives { (subscriber : Subscriber) (values : List T) → waiting domain.old subscriber ≡ 0 → IsConnected domain.old (written_lender (as_written self)) subscriber
-            → HasValues domain.old (written_number (as_written self)) values → IfOk result (λ outcome. IsDelivered outcome → AllFrom domain.new (written_lender (as_written self)) subscriber (values ∷ [])) }
-        ensures joins { (subscriber : Subscriber) (values : List T) (earlier : List (List T)) → AllFrom domain.old (written_lender (as_written self)) subscriber earlier → HasItsBuffer domain.old subscriber
-            → length earlier < buffer_size_of subscriber → IsConnected domain.old (written_lender (as_written self)) subscriber → HasValues domain.old (written_number (as_written self)) values
+        ensures arrives { (subscriber : Subscriber) (values : List T) → waiting domain.old subscriber ≡ 0
+            → IsConnected domain.old (written_lender (as_written self)) subscriber
+            → HasValues domain.old (written_number (as_written self)) values
+            → IfOk result (λ outcome. IsDelivered outcome
+            → AllFrom domain.new (written_lender (as_written self)) subscriber (values ∷ [])) }
+        ensures joins { (subscriber : Subscriber) (values : List T) (earlier : List (List T))
+            → AllFrom domain.old (written_lender (as_written self)) subscriber earlier
+            → HasItsBuffer domain.old subscriber
+            → length earlier < buffer_size_of subscriber
+            → IsConnected domain.old (written_lender (as_written self)) subscriber
+            → HasValues domain.old (written_number (as_written self)) values
             → IfOk result (λ outcome. IsDelivered outcome → AllFrom domain.new (written_lender (as_written self)) subscriber (earlier ++ values ∷ [])) }
-        ensures pending { (subscriber : Subscriber) (values : List T) → IsConnected domain.old (written_lender (as_written self)) subscriber → HasValues domain.old (written_number (as_written self)) values
+        ensures pending { (subscriber : Subscriber) (values : List T)
+            → IsConnected domain.old (written_lender (as_written self)) subscriber
+            → HasValues domain.old (written_number (as_written self)) values
             → IfOk result (λ outcome. IfBlocked outcome (λ blocked. IsServedOrPending domain.old domain.new blocked subscriber values)) }
-        ensures failed { (subscriber : Subscriber) (values : List T) → IsConnected domain.old (written_lender (as_written self)) subscriber → HasValues domain.old (written_number (as_written self)) values → IfErr result (AfterError domain.old domain.new (written_lender (as_written self)) subscriber values) }
+        ensures failed { (subscriber : Subscriber) (values : List T)
+            → IsConnected domain.old (written_lender (as_written self)) subscriber
+            → HasValues domain.old (written_number (as_written self)) values
+            → IfErr result (AfterError domain.old domain.new (written_lender (as_written self)) subscriber values) }
         ensures full { (subscriber : Subscriber) → IsConnected domain.old (written_lender (as_written self)) subscriber
-            → IfOk result (λ outcome. IfBlocked outcome (λ blocked. IsNext domain.new blocked subscriber → IsFull domain.old (written_lender (as_written self)) subscriber)) }
-        ensures counts { (subscribers : List Subscriber) (values : List T) → AreDifferent subscribers → AreConnected domain.old (written_lender (as_written self)) subscribers → HasValues domain.old (written_number (as_written self)) values
-            → IfOk result (λ outcome. (count : ℕ) → outcome ≡ SendOutcome.Delivered count → Counts domain.old domain.new (written_lender (as_written self)) values subscribers count) }
+            → IfOk result (λ outcome. IfBlocked outcome
+            (λ blocked. IsNext domain.new blocked subscriber
+            → IsFull domain.old (written_lender (as_written self)) subscriber)) }
+        ensures counts { (subscribers : List Subscriber) (values : List T) → AreDifferent subscribers
+            → AreConnected domain.old (written_lender (as_written self)) subscribers
+            → HasValues domain.old (written_number (as_written self)) values
+            → IfOk result (λ outcome. (count : ℕ) → outcome ≡ SendOutcome.Delivered count
+            → Counts domain.old domain.new (written_lender (as_written self)) values subscribers count) }
         ensures spends { SpendsLoan (as_written self) result domain.old domain.new }
     {
         let SampleMut { sample } = self;
@@ -126,22 +154,49 @@ impl SampleMut {
         ensures errors { IfErr result (FailsDelivery domain.old (written_key (as_written self))) }
         ensures sent { (m : Messages T U) (s : State T U) (l : Loan T U) → Shows domain.old m s → s.loans (written_number (as_written self)) ≡ Some l
             → (s' : State T U) × Shows domain.new (messages_after_send m (written_number (as_written self)) l result) s'
-            × SendsToConnection (answers_of F.allows G.allows (domain.old.boxes).publishers) s (written_number (as_written self)) l channel connection result s' }
-        ensures roomy { (subscriber : Subscriber) → channel ≡ 0 → IsAtConnection domain.old (written_lender (as_written self)) connection subscriber → IsConnected domain.old (written_lender (as_written self)) subscriber → HasItsBuffer domain.old subscriber
-            → length (payloads_from domain.old (written_lender (as_written self)) subscriber) < buffer_size_of subscriber → IfOk result IsDelivered × IfErr result (λ error. error ≢ UnableToDeliver) }
+            × SendsToConnection (answers_of F.allows G.allows (domain.old.boxes).publishers) s
+            (written_number (as_written self)) l channel connection result s' }
+        ensures roomy { (subscriber : Subscriber) → channel ≡ 0
+            → IsAtConnection domain.old (written_lender (as_written self)) connection subscriber
+            → IsConnected domain.old (written_lender (as_written self)) subscriber
+            → HasItsBuffer domain.old subscriber
+            → length (payloads_from domain.old (written_lender (as_written self)) subscriber) < buffer_size_of
+            subscriber → IfOk result IsDelivered × IfErr result (λ error. error ≢ UnableToDeliver) }
         ensures adds { AddAtMost 1 domain.old domain.new }
-        ensures serves { (subscriber : Subscriber) (values : List T) → channel ≡ 0 → IsAtConnection domain.old (written_lender (as_written self)) connection subscriber → IsConnected domain.old (written_lender (as_written self)) subscriber
-            → HasValues domain.old (written_number (as_written self)) values → IfOk result (λ outcome. IsDelivered outcome → IsServed domain.old domain.new (written_lender (as_written self)) subscriber values) }
-        ensures arrives { (subscriber : Subscriber) (values : List T) → channel ≡ 0 → IsAtConnection domain.old (written_lender (as_written self)) connection subscriber → waiting domain.old subscriber ≡ 0 → IsConnected domain.old (written_lender (as_written self)) subscriber
-            → HasValues domain.old (written_number (as_written self)) values → IfOk result (λ outcome. IsDelivered outcome → AllFrom domain.new (written_lender (as_written self)) subscriber (values ∷ [])) }
-        ensures joins { (subscriber : Subscriber) (values : List T) (earlier : List (List T)) → channel ≡ 0 → IsAtConnection domain.old (written_lender (as_written self)) connection subscriber → AllFrom domain.old (written_lender (as_written self)) subscriber earlier
-            → HasItsBuffer domain.old subscriber → length earlier < buffer_size_of subscriber → IsConnected domain.old (written_lender (as_written self)) subscriber → HasValues domain.old (written_number (as_written self)) values
+        ensures serves { (subscriber : Subscriber) (values : List T) → channel ≡ 0
+            → IsAtConnection domain.old (written_lender (as_written self)) connection subscriber
+            → IsConnected domain.old (written_lender (as_written self)) subscriber
+            → HasValues domain.old (written_number (as_written self)) values
+            → IfOk result (λ outcome. IsDelivered outcome
+            → IsServed domain.old domain.new (written_lender (as_written self)) subscriber values) }
+        ensures arrives { (subscriber : Subscriber) (values : List T) → channel ≡ 0
+            → IsAtConnection domain.old (written_lender (as_written self)) connection subscriber
+            → waiting domain.old subscriber ≡ 0 → IsConnected domain.old (written_lender (as_written self)) subscriber
+            → HasValues domain.old (written_number (as_written self)) values
+            → IfOk result (λ outcome. IsDelivered outcome
+            → AllFrom domain.new (written_lender (as_written self)) subscriber (values ∷ [])) }
+        ensures joins { (subscriber : Subscriber) (values : List T) (earlier : List (List T)) → channel ≡ 0
+            → IsAtConnection domain.old (written_lender (as_written self)) connection subscriber
+            → AllFrom domain.old (written_lender (as_written self)) subscriber earlier
+            → HasItsBuffer domain.old subscriber → length earlier < buffer_size_of subscriber
+            → IsConnected domain.old (written_lender (as_written self)) subscriber
+            → HasValues domain.old (written_number (as_written self)) values
             → IfOk result (λ outcome. IsDelivered outcome → AllFrom domain.new (written_lender (as_written self)) subscriber (earlier ++ values ∷ [])) }
-        ensures alone { (other : Subscriber) → (channel ≡ 0 → IsAtConnection domain.old (written_lender (as_written self)) connection other → ⊥) → WaitsAsBefore domain.old domain.new other }
-        ensures pending { (subscriber : Subscriber) (values : List T) → channel ≡ 0 → IsAtConnection domain.old (written_lender (as_written self)) connection subscriber → IsConnected domain.old (written_lender (as_written self)) subscriber
-            → HasValues domain.old (written_number (as_written self)) values → IfOk result (λ outcome. IfBlocked outcome (λ blocked. IsServedOrPending domain.old domain.new blocked subscriber values)) }
-        ensures counts { (subscriber : Subscriber) (values : List T) → channel ≡ 0 → IsAtConnection domain.old (written_lender (as_written self)) connection subscriber → IsConnected domain.old (written_lender (as_written self)) subscriber
-            → HasValues domain.old (written_number (as_written self)) values → IfOk result (λ outcome. (count : ℕ) → outcome ≡ SendOutcome.Delivered count → HaveTaken domain.old domain.new (written_lender (as_written self)) values (subscriber ∷ []) count) }
+        ensures alone { (other : Subscriber) → (channel ≡ 0
+            → IsAtConnection domain.old (written_lender (as_written self)) connection other → ⊥)
+            → WaitsAsBefore domain.old domain.new other }
+        ensures pending { (subscriber : Subscriber) (values : List T) → channel ≡ 0
+            → IsAtConnection domain.old (written_lender (as_written self)) connection subscriber
+            → IsConnected domain.old (written_lender (as_written self)) subscriber
+            → HasValues domain.old (written_number (as_written self)) values
+            → IfOk result (λ outcome. IfBlocked outcome
+            (λ blocked. IsServedOrPending domain.old domain.new blocked subscriber values)) }
+        ensures counts { (subscriber : Subscriber) (values : List T) → channel ≡ 0
+            → IsAtConnection domain.old (written_lender (as_written self)) connection subscriber
+            → IsConnected domain.old (written_lender (as_written self)) subscriber
+            → HasValues domain.old (written_number (as_written self)) values
+            → IfOk result (λ outcome. (count : ℕ) → outcome ≡ SendOutcome.Delivered count
+            → HaveTaken domain.old domain.new (written_lender (as_written self)) values (subscriber ∷ []) count) }
         ensures spends { SpendsLoan (as_written self) result domain.old domain.new }
     {
         let SampleMut { sample } = self;

@@ -93,7 +93,8 @@ impl SampleMutUninit {
     ) -> SampleMut
         requires live { IsUnwritten domain.old (as_unwritten self) }
         requires sliced { HoldsSlices domain.old }
-        requires lengths { (cells : List (Option T)) → HasUnwrittenCells domain.old (unwritten_number (as_unwritten self)) cells → length values.now ≡ length cells }
+        requires lengths { (cells : List (Option T)) → HasUnwrittenCells domain.old
+            (unwritten_number (as_unwritten self)) cells → length values.now ≡ length cells }
         ensures step { WritesAll (unwritten_number (as_unwritten self)) values.now domain.old domain.new }
         ensures written { HasValues domain.new (written_number (as_written result)) values.now }
         ensures becomes { BecomesWritten (as_unwritten self) (as_written result) domain.old domain.new }
@@ -119,8 +120,10 @@ impl SampleMutUninit {
             (λ _. (is_initialized l ≡ true) × Shows domain.new m (initialized s (unwritten_number (as_unwritten self)) l))
             (λ _. (is_initialized l ≡ false) × Shows domain.new m s) }
         ensures becomes { IfOk result (λ it. BecomesWritten (as_unwritten self) (as_written it) domain.old domain.new) }
-        ensures reads { (values : List T) → HasUnwrittenCells domain.old (unwritten_number (as_unwritten self)) (map Some values) → IsOkAnd result (λ it. HasValues domain.new (written_number (as_written it)) values) }
-        ensures refused { (cells : List (Option T)) → HasUnwrittenCells domain.old (unwritten_number (as_unwritten self)) cells → list_all is_some cells ≡ false → IsErr result }
+        ensures reads { (values : List T) → HasUnwrittenCells domain.old (unwritten_number (as_unwritten self))
+            (map Some values) → IsOkAnd result (λ it. HasValues domain.new (written_number (as_written it)) values) }
+        ensures refused { (cells : List (Option T)) → HasUnwrittenCells domain.old
+            (unwritten_number (as_unwritten self)) cells → list_all is_some cells ≡ false → IsErr result }
         ensures handed_back { MatchResult result (λ _. self ≡ self) (λ it. (as_unwritten it ≡ as_unwritten self) × (domain.new ≡ domain.old)) }
         ensures leaves { LeavesBut (unwritten_loan (as_unwritten self)) domain.old domain.new }
     {

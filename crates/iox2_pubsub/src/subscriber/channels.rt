@@ -80,7 +80,8 @@ impl Subscriber {
     )
         requires live { IsLiveSubscriber domain.old self.now }
         requires channel { channel < channel_count domain.old.config }
-        ensures closed { (m : Messages T U) (s : State T U) → Shows domain.old m s → Shows domain.new m (received_closed s (subscriber_id self.now) channel expected) }
+        ensures closed { (m : Messages T U) (s : State T U) → Shows domain.old m s
+            → Shows domain.new m (received_closed s (subscriber_id self.now) channel expected) }
         ensures leaves { LeavesButChannels (λ publisher other. (subscriber_id other ≢ subscriber_id self.now) ⊎ (channel ≢ 0)) domain.old domain.new }
     {
         let change = ChannelChange::SetState(CHANNEL_STATE_CLOSED);
@@ -103,7 +104,8 @@ impl Subscriber {
     )
         requires live { IsLiveSubscriber domain.old self.now }
         requires channel { channel < channel_count domain.old.config }
-        ensures hinted { (m : Messages T U) (s : State T U) → Shows domain.old m s → Shows domain.new m (received_hinted s (subscriber_id self.now) channel expected) }
+        ensures hinted { (m : Messages T U) (s : State T U) → Shows domain.old m s
+            → Shows domain.new m (received_hinted s (subscriber_id self.now) channel expected) }
         ensures leaves { Leaves domain.old domain.new }
     {
         self.change_channel(domain, channel, expected, ChannelChange::SetHint);
@@ -121,7 +123,8 @@ impl Subscriber {
         requires channel { channel < channel_count domain.old.config }
         ensures changed { (m : Messages T U) (s : State T U) → Shows domain.old m s
             → Shows domain.new m (received_changed s (subscriber_id self.now) channel expected (changed_channel change)) }
-        ensures leaves { LeavesButChannels (λ publisher other. ClosesNone expected (changed_channel change) ⊎ (subscriber_id other ≢ subscriber_id self.now) ⊎ (channel ≢ 0)) domain.old domain.new }
+        ensures leaves { LeavesButChannels (λ publisher other. ClosesNone expected (changed_channel change)
+            ⊎ (subscriber_id other ≢ subscriber_id self.now) ⊎ (channel ≢ 0)) domain.old domain.new }
     {
         change_received(&mut domain.state, self.place, channel, expected, change);
     }

@@ -29,7 +29,9 @@ impl Subscriber {
         requires live { IsLiveSubscriber domain.old self.now }
         ensures consistent { IsConsistent domain.old }
         ensures answers { (m : Messages T U) (s : State T U) → Shows domain.old m s
-            → (s' : State T U) × Shows domain.new m s' × IsAnswered (answers_of F.allows G.allows (domain.old.boxes).subscribers) s (subscriber_id self.now) result s' }
+            → (s' : State T U) × Shows domain.new m s'
+            × IsAnswered (answers_of F.allows G.allows (domain.old.boxes).subscribers) s (subscriber_id self.now)
+            result s' }
         ensures waits { IfOk result (λ waits. IsTrue waits ↔ (0 < waiting domain.new self.now)) }
         ensures undisturbed { KeepsAll domain.old self.now → WaitingStays domain.old domain.new }
         ensures updated { OnOk result (IsUpToDate domain.new self.now) }

@@ -21,7 +21,8 @@ impl<T: Drop, U: Default + Drop, F: BackpressureFn, G: DegradationFn> UpdateConn
 
     ghost live_stays = { subscriber_stays };
 
-    ghost updates = { λ old s subscriber s' failure. UpdateSubscriber (answers_of F.allows G.allows (old.boxes).subscribers) s (subscriber_id subscriber) s' failure };
+    ghost updates = { λ old s subscriber s' failure. UpdateSubscriber
+        (answers_of F.allows G.allows (old.boxes).subscribers) s (subscriber_id subscriber) s' failure };
 
     ghost is_updated = { IsUpToDate };
 

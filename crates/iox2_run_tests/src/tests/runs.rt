@@ -28,7 +28,8 @@ pub(crate) fn replies_to_numbers(
     domain: &mut Domain<u64, u8>,
     commands: Vec<Command<u64, u8>>,
 ) -> Result<Vec<Reply<u64, u8>>, Vec<Command<u64, u8>>>
-    ensures { IfOk result (λ replies. (m : Messages ℕ ℕ) (s : State ℕ ℕ) → Shows domain.old m s → RunsOnDomain (only_defaults 0 0) domain.new m s commands.items replies.items) }
+    ensures { IfOk result (λ replies. (m : Messages ℕ ℕ) (s : State ℕ ℕ) → Shows domain.old m s
+        → RunsOnDomain (only_defaults 0 0) domain.new m s commands.items replies.items) }
 {
     let replies = run(alloc, domain, commands)?;
     Ok(replies)
@@ -40,7 +41,8 @@ fn replies_without_headers(
     domain: &mut Domain<u64, ()>,
     commands: Vec<Command<u64, ()>>,
 ) -> Result<Vec<Reply<u64, ()>>, Vec<Command<u64, ()>>>
-    ensures { IfOk result (λ replies. (m : Messages ℕ (Unit {0})) (s : State ℕ (Unit {0})) → Shows domain.old m s → RunsOnDomain (only_defaults 0 tt) domain.new m s commands.items replies.items) }
+    ensures { IfOk result (λ replies. (m : Messages ℕ (Unit {0})) (s : State ℕ (Unit {0})) → Shows domain.old m s
+        → RunsOnDomain (only_defaults 0 tt) domain.new m s commands.items replies.items) }
 {
     let replies = run(alloc, domain, commands)?;
     Ok(replies)

@@ -89,7 +89,8 @@ pub(crate) fn publisher_channel<
     call: PublisherChannelCall,
 ) -> Turn<T, U>
     requires { IsLiveEntry domain.old held }
-    ensures { Turns fixed_handlers (defaults_of T.is_default U.is_default) domain.old domain.new held (λ of. PublisherChannel of channel connection call) result }
+    ensures { Turns fixed_handlers (defaults_of T.is_default U.is_default) domain.old domain.new held
+        (λ of. PublisherChannel of channel connection call) result }
 {
     if !has_channel(domain, channel) {
         return (Reply::Skipped, held, Made::Nothing);
@@ -115,7 +116,8 @@ fn publisher_reply<T: Drop, U: Default + Drop, F: BackpressureFn, G: Degradation
     requires placed { IsPlacedPublisher domain.old publisher.now }
     requires channel { channel < channel_count domain.old.config }
     ensures replies { (m : Messages T U) (s : State T U) → Shows domain.old m s
-        → Shows domain.new m (of_publisher_channel s publisher.now.id channel connection call).state × ((of_publisher_channel s publisher.now.id channel connection call).reply ≡ result) }
+        → Shows domain.new m (of_publisher_channel s publisher.now.id channel connection call).state
+        × ((of_publisher_channel s publisher.now.id channel connection call).reply ≡ result) }
     ensures stays { Stays domain.old domain.new }
 {
     match call {
@@ -169,7 +171,8 @@ fn subscriber_reply<T: Drop, U: Default + Drop, F: BackpressureFn, G: Degradatio
     requires live { IsLiveSubscriber domain.old subscriber.now }
     requires channel { channel < channel_count domain.old.config }
     ensures replies { (m : Messages T U) (s : State T U) → Shows domain.old m s
-        → Shows domain.new m (of_subscriber_channel s subscriber.now.id channel call).state × ((of_subscriber_channel s subscriber.now.id channel call).reply ≡ result) }
+        → Shows domain.new m (of_subscriber_channel s subscriber.now.id channel call).state
+        × ((of_subscriber_channel s subscriber.now.id channel call).reply ≡ result) }
     ensures stays { Stays domain.old domain.new }
 {
     match call {

@@ -57,7 +57,9 @@ fn create_asked<
     requires asks { (worst n : ℕ) → P.post callback worst n → n ≡ slots }
     ensures creates { (m : Messages T U) (s : State T U) → Shows domain.old m s → (s' : State T U) × Shows domain.new m s'
         × MatchResult result
-        (λ publisher. (publisher_id (H.as_port publisher) ≡ s.next_port) × CreatePublisher (answers_of F.allows G.allows (domain.new.boxes).publishers) s (with_slots factory.settings (Some slots)) s' None)
+        (λ publisher. (publisher_id (H.as_port publisher) ≡ s.next_port)
+        × CreatePublisher (answers_of F.allows G.allows (domain.new.boxes).publishers) s
+        (with_slots factory.settings (Some slots)) s' None)
         (λ e. CreatePublisher (answers_of F.allows G.allows (domain.new.boxes).publishers) s (with_slots factory.settings (Some slots)) s' (Some e)) }
     ensures ready { IfOk result (λ publisher. IsReadyPublisher domain.new (H.as_port publisher)) }
     ensures new { IfOk result (λ publisher. IsNewIn domain.old (publisher_port (H.as_port publisher))) }
@@ -82,7 +84,9 @@ fn create<
     requires { factory.settings.asked_slots ≡ None }
     ensures creates { (m : Messages T U) (s : State T U) → Shows domain.old m s → (s' : State T U) × Shows domain.new m s'
         × MatchResult result
-        (λ publisher. (publisher_id (H.as_port publisher) ≡ s.next_port) × CreatePublisher (answers_of F.allows G.allows (domain.new.boxes).publishers) s (with_slots factory.settings asked_slots) s' None)
+        (λ publisher. (publisher_id (H.as_port publisher) ≡ s.next_port)
+        × CreatePublisher (answers_of F.allows G.allows (domain.new.boxes).publishers) s
+        (with_slots factory.settings asked_slots) s' None)
         (λ e. CreatePublisher (answers_of F.allows G.allows (domain.new.boxes).publishers) s (with_slots factory.settings asked_slots) s' (Some e)) }
     ensures ready { IfOk result (λ publisher. IsReadyPublisher domain.new (H.as_port publisher)) }
     ensures new { IfOk result (λ publisher. IsNewIn domain.old (publisher_port (H.as_port publisher))) }

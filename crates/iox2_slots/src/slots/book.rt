@@ -1,5 +1,7 @@
 //! The book of a publisher's slots.
-ghost use Rattle.std.specs.Prelude.{ℕ, [], ◌∷◌, ◌≡◌, ◌+◌, ◌-◌, ◌<◌, ◌≤◌, ◌^◌, ◌↔◌, ◌++◌, length, map, drop, slice_get, slice_index, slice_set, replicate, vec_capacity, Some, false, ◌==◌, IsTrue, IsNone, IfSome, IfNone, IfOk};
+ghost use Rattle.std.specs.Prelude.{ℕ, [], ◌∷◌, ◌≡◌, ◌+◌, ◌-◌, ◌<◌, ◌≤◌, ◌^◌, ◌↔◌, ◌++◌, length, map, drop};
+ghost use Rattle.std.specs.Prelude.{slice_get, slice_index, slice_set, replicate, vec_capacity, Some, false, ◌==◌};
+ghost use Rattle.std.specs.Prelude.{IsTrue, IsNone, IfSome, IfNone, IfOk};
 ghost use Rattle.std.specs.List.{All, count_by};
 ghost use Rattle.iox2_slots.specs.SlotFree.{HasFree, IsTakenOut};
 

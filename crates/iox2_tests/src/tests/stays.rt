@@ -1,6 +1,7 @@
 //! What a user's functions know of handles after other calls, with nothing tested when they run.
 ghost use Rattle.std.specs.Prelude.{◌≡◌, true};
-ghost use Rattle.iox2_pubsub.specs.Live.{HasLender, IsLivePublisher, IsLiveSample, IsLiveSubscriber, IsSingleValued, NeverWaitsUnwritten, Stays, StaysBut, unwritten_key, unwritten_loan};
+ghost use Rattle.iox2_pubsub.specs.Live.{HasLender, IsLivePublisher, IsLiveSample, IsLiveSubscriber, IsSingleValued};
+ghost use Rattle.iox2_pubsub.specs.Live.{NeverWaitsUnwritten, Stays, StaysBut, unwritten_key, unwritten_loan};
 
 use crate::tests::fixtures::{domain, publisher_of, subscriber_of};
 use iox2_fixtures::{Reading, Weather, factory_for, publish, settings};

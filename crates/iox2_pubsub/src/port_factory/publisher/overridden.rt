@@ -45,10 +45,16 @@ impl<
         ensures creates { (asked : Option ℕ) × AsksForSlots (P.post (callback_of self)) (worst_case (domain.old.config) self.settings.max_loaned_samples) asked
             × ((m : Messages T U) (s : State T U) → Shows domain.old m s → (s' : State T U) × Shows domain.new m s'
             × MatchResult result
-            (λ publisher. (publisher_id (H.as_port publisher) ≡ s.next_port) × CreatePublisher (answers_of F.allows G.allows (domain.new.boxes).publishers) s (with_slots self.settings asked) s' None)
+            (λ publisher. (publisher_id (H.as_port publisher) ≡ s.next_port)
+            × CreatePublisher (answers_of F.allows G.allows (domain.new.boxes).publishers) s
+            (with_slots self.settings asked) s' None)
             (λ e. CreatePublisher (answers_of F.allows G.allows (domain.new.boxes).publishers) s (with_slots self.settings asked) s' (Some e))) }
         ensures made { IfOk result (λ publisher. IsMadePublisher self.settings self.box self.degradation_box (H.as_port publisher) domain.old domain.new) }
-        ensures left { AsksForAll (P.post (callback_of self)) (worst_case (domain.old.config) self.settings.max_loaned_samples) → LendsFirst (domain.old.config) self.settings → IfOk result (λ publisher. HasLoansLeft domain.new (H.as_port publisher) self.settings.max_loaned_samples) }
+        ensures left { AsksForAll (P.post (callback_of self))
+            (worst_case (domain.old.config) self.settings.max_loaned_samples)
+            → LendsFirst (domain.old.config) self.settings
+            → IfOk result (λ publisher. HasLoansLeft domain.new (H.as_port publisher)
+            self.settings.max_loaned_samples) }
         ensures refused { OnErr result (WaitingStays domain.old domain.new) }
         ensures leaves { LeavesNoFewer domain.old domain.new }
     {

@@ -65,11 +65,14 @@ impl Publisher {
         G: DegradationFn,
     >(&self, domain: &mut Domain<T, U, F, G>, slice_len: usize) -> Result<LocatedLoan<T>, LoanError>
         requires ready { IsReadyForSlices domain.old (as_publisher self.now) }
-        ensures lends { TakesStep domain.old domain.new (λ before after. DefaultSliceCall T.is_default U.is_default slice_len before (publisher_id (as_publisher self.now)) result after) }
+        ensures lends { TakesStep domain.old domain.new
+            (λ before after. DefaultSliceCall T.is_default U.is_default slice_len before
+            (publisher_id (as_publisher self.now)) result after) }
         ensures granted { (loans numbers : ℕ) → HasLoansLeft domain.old (as_publisher self.now) (loans + 1) → HasNumbersLeft domain.old (numbers + 1)
             → slice_len ≤ max_slice_len_of (as_publisher self.now) → IsOk result }
         ensures loan { IfOk result (λ it. IsLentWritten (as_publisher self.now) (as_written it.loan) domain.old domain.new) }
-        ensures reads { IfOk result (λ it. (values : List T) × All T.is_default values × (length values ≡ slice_len) × HasValues domain.new (written_number (as_written it.loan)) values) }
+        ensures reads { IfOk result (λ it. (values : List T) × All T.is_default values × (length values ≡ slice_len)
+            × HasValues domain.new (written_number (as_written it.loan)) values) }
         ensures start { IfOk result (λ it. IsSome it.start ↔ 0 < slice_len) }
         ensures refused { OnErr result (LoansLeftStay domain.old domain.new) }
         ensures leaves { LeavesLending (as_publisher self.now) domain.old domain.new }
@@ -98,11 +101,14 @@ impl Publisher {
         G: DegradationFn,
     >(&self, domain: &mut Domain<T, U, F, G>, slice_len: usize) -> Result<LocatedLoan<T>, LoanError>
         requires ready { IsReadyForSlices domain.old (as_publisher self.now) }
-        ensures lends { TakesStep domain.old domain.new (λ before after. DefaultSliceCall (λ value. Unit {0}) U.is_default slice_len before (publisher_id (as_publisher self.now)) result after) }
+        ensures lends { TakesStep domain.old domain.new
+            (λ before after. DefaultSliceCall (λ value. Unit {0}) U.is_default slice_len before
+            (publisher_id (as_publisher self.now)) result after) }
         ensures granted { (loans numbers : ℕ) → HasLoansLeft domain.old (as_publisher self.now) (loans + 1) → HasNumbersLeft domain.old (numbers + 1)
             → slice_len ≤ max_slice_len_of (as_publisher self.now) → IsOk result }
         ensures loan { IfOk result (λ it. IsLentWritten (as_publisher self.now) (as_written it.loan) domain.old domain.new) }
-        ensures reads { IfOk result (λ it. (values : List T) × (length values ≡ slice_len) × HasValues domain.new (written_number (as_written it.loan)) values) }
+        ensures reads { IfOk result (λ it. (values : List T) × (length values ≡ slice_len)
+            × HasValues domain.new (written_number (as_written it.loan)) values) }
         ensures start { IfOk result (λ it. IsSome it.start ↔ 0 < slice_len) }
         ensures refused { OnErr result (LoansLeftStay domain.old domain.new) }
         ensures leaves { LeavesLending (as_publisher self.now) domain.old domain.new }

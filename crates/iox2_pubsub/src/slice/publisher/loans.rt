@@ -46,7 +46,9 @@ impl Publisher {
         slice_len: usize,
     ) -> Result<SampleMutUninit, LoanError>
         requires ready { IsReadyForSlices domain.old (as_publisher self.now) }
-        ensures lends { TakesStep domain.old domain.new (λ before after. LoanCall U.is_default true slice_len before (publisher_id (as_publisher self.now)) result after) }
+        ensures lends { TakesStep domain.old domain.new
+            (λ before after. LoanCall U.is_default true slice_len before (publisher_id (as_publisher self.now)) result
+            after) }
         ensures granted { (loans numbers : ℕ) → HasLoansLeft domain.old (as_publisher self.now) (loans + 1) → HasNumbersLeft domain.old (numbers + 1)
             → slice_len ≤ max_slice_len_of (as_publisher self.now) → IsOk result }
         ensures loan { IfOk result (λ loan. IsLentUnwritten (as_publisher self.now) (as_unwritten loan) domain.old domain.new) }
@@ -71,11 +73,14 @@ impl Publisher {
         slice_len: usize,
     ) -> Result<SampleMut, LoanError>
         requires ready { IsReadyForSlices domain.old (as_publisher self.now) }
-        ensures lends { TakesStep domain.old domain.new (λ before after. DefaultSliceCall T.is_default U.is_default slice_len before (publisher_id (as_publisher self.now)) result after) }
+        ensures lends { TakesStep domain.old domain.new
+            (λ before after. DefaultSliceCall T.is_default U.is_default slice_len before
+            (publisher_id (as_publisher self.now)) result after) }
         ensures granted { (loans numbers : ℕ) → HasLoansLeft domain.old (as_publisher self.now) (loans + 1) → HasNumbersLeft domain.old (numbers + 1)
             → slice_len ≤ max_slice_len_of (as_publisher self.now) → IsOk result }
         ensures loan { IfOk result (λ loan. IsLentWritten (as_publisher self.now) (as_written loan) domain.old domain.new) }
-        ensures reads { IfOk result (λ loan. (values : List T) × All T.is_default values × (length values ≡ slice_len) × HasValues domain.new (written_number (as_written loan)) values) }
+        ensures reads { IfOk result (λ loan. (values : List T) × All T.is_default values × (length values ≡ slice_len)
+            × HasValues domain.new (written_number (as_written loan)) values) }
         ensures refused { OnErr result (LoansLeftStay domain.old domain.new) }
         ensures leaves { LeavesLending (as_publisher self.now) domain.old domain.new }
     {
@@ -97,11 +102,14 @@ impl Publisher {
     ) -> Result<SampleMutUninit, LoanError>
         requires ready { IsReadyPublisher domain.old (as_publisher self.now) }
         requires single { (domain.old.config).variant ≡ FixedSize → slice_len ≡ 1 }
-        ensures lends { TakesStep domain.old domain.new (λ before after. LoanCall (λ _. ⊤) true slice_len before (publisher_id (as_publisher self.now)) result after) }
+        ensures lends { TakesStep domain.old domain.new
+            (λ before after. LoanCall (λ _. ⊤) true slice_len before (publisher_id (as_publisher self.now)) result
+            after) }
         ensures granted { (loans numbers : ℕ) → HasLoansLeft domain.old (as_publisher self.now) (loans + 1) → HasNumbersLeft domain.old (numbers + 1)
             → slice_len ≤ max_slice_len_of (as_publisher self.now) → IsOk result }
         ensures loan { IfOk result (λ loan. IsLentUnwritten (as_publisher self.now) (as_unwritten loan) domain.old domain.new) }
-        ensures unfilled { IfOk result (λ loan. HasOnlyUnwrittenCells (as_publisher self.now) (as_unwritten loan) slice_len (slice_len * (domain.old.config).units_per_element) domain.old domain.new) }
+        ensures unfilled { IfOk result (λ loan. HasOnlyUnwrittenCells (as_publisher self.now) (as_unwritten loan)
+            slice_len (slice_len * (domain.old.config).units_per_element) domain.old domain.new) }
         ensures refused { OnErr result (LoansLeftStay domain.old domain.new) }
         ensures leaves { LeavesLending (as_publisher self.now) domain.old domain.new }
     {

@@ -20,7 +20,8 @@ impl<T: Drop, U: Default + Drop, F: BackpressureFn, G: DegradationFn> UpdateConn
 
     ghost live_stays = { λ old new publisher. ready_stays old new (as_publisher publisher) };
 
-    ghost updates = { λ old s publisher s' failure. UpdatePublisher (answers_of F.allows G.allows (old.boxes).publishers) s (publisher_id (as_publisher publisher)) s' failure };
+    ghost updates = { λ old s publisher s' failure. UpdatePublisher
+        (answers_of F.allows G.allows (old.boxes).publishers) s (publisher_id (as_publisher publisher)) s' failure };
 
     ghost is_updated = { λ domain publisher. Unit {0} };
 

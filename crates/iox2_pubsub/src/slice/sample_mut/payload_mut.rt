@@ -36,15 +36,21 @@ impl SampleMut {
         ensures payload { HasValues domain.old (written_number (as_written sample.old)) result.now }
         ensures changes { (m : Messages T U) (s : State T U) (left : List T) → Shows domain.old m s
             → (l : Loan T U) × (s.loans (written_number (as_written sample.old)) ≡ Some l)
-            × Shows (with_payloads domain.old (written_number (as_written sample.old)) left) m (with_loan s (written_number (as_written sample.old)) (Some (cells_changed (map Some left) l))) }
+            × Shows (with_payloads domain.old (written_number (as_written sample.old)) left) m
+            (with_loan s (written_number (as_written sample.old)) (Some (cells_changed (map Some left) l))) }
         ensures out { (left : List T) → IsWritten (with_payloads domain.old (written_number (as_written sample.old)) left) (as_written sample.old) }
-        ensures live { NeverWaits domain.old (written_key (as_written sample.old)) → (left : List T) → IsWrittenLoan (with_payloads domain.old (written_number (as_written sample.old)) left) (as_written sample.old) }
-        ensures reads { (left : List T) → length left ≡ length result.now → HasValues (with_payloads domain.old (written_number (as_written sample.old)) left) (written_number (as_written sample.old)) left }
+        ensures live { NeverWaits domain.old (written_key (as_written sample.old)) → (left : List T)
+            → IsWrittenLoan (with_payloads domain.old (written_number (as_written sample.old)) left)
+            (as_written sample.old) }
+        ensures reads { (left : List T) → length left ≡ length result.now
+            → HasValues (with_payloads domain.old (written_number (as_written sample.old)) left)
+            (written_number (as_written sample.old)) left }
         ensures header { (left : List T) (header : Header) → LoanHasHeader domain.old (written_key (as_written sample.old)) header
             → LoanHasHeader (with_payloads domain.old (written_number (as_written sample.old)) left) (written_key (as_written sample.new)) header }
         ensures user_header { (left : List T) (header : U) → LoanHasUserHeader domain.old (written_key (as_written sample.old)) header
             → LoanHasUserHeader (with_payloads domain.old (written_number (as_written sample.old)) left) (written_key (as_written sample.new)) header }
-        ensures leaves { (left : List T) → LeavesBut (written_loan (as_written sample.old)) domain.old (with_payloads domain.old (written_number (as_written sample.old)) left) }
+        ensures leaves { (left : List T) → LeavesBut (written_loan (as_written sample.old)) domain.old
+            (with_payloads domain.old (written_number (as_written sample.old)) left) }
     {
         let at = find_live_loan(&domain.state, &sample.sample.loan);
         values_at_mut(&mut domain.state, at)

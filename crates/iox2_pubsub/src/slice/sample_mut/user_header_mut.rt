@@ -34,15 +34,25 @@ impl SampleMut {
         ensures user_header { LoanHasUserHeader domain.old (written_key (as_written sample.old)) result.now }
         ensures changes { (m : Messages T U) (s : State T U) (user_header : U) → Shows domain.old m s
             → (l : Loan T U) × (s.loans (written_number (as_written sample.old)) ≡ Some l)
-            × Shows (with_user_header_left domain.old (written_number (as_written sample.old)) user_header) m (with_loan s (written_number (as_written sample.old)) (Some (user_header_changed user_header l))) }
-        ensures out { (user_header : U) → IsWritten (with_user_header_left domain.old (written_number (as_written sample.old)) user_header) (as_written sample.old) }
-        ensures live { NeverWaits domain.old (written_key (as_written sample.old)) → (user_header : U) → IsWrittenLoan (with_user_header_left domain.old (written_number (as_written sample.old)) user_header) (as_written sample.old) }
-        ensures is { (user_header : U) → LoanHasUserHeader (with_user_header_left domain.old (written_number (as_written sample.old)) user_header) (written_key (as_written sample.old)) user_header }
+            × Shows (with_user_header_left domain.old (written_number (as_written sample.old)) user_header) m
+            (with_loan s (written_number (as_written sample.old)) (Some (user_header_changed user_header l))) }
+        ensures out { (user_header : U) → IsWritten
+            (with_user_header_left domain.old (written_number (as_written sample.old)) user_header)
+            (as_written sample.old) }
+        ensures live { NeverWaits domain.old (written_key (as_written sample.old)) → (user_header : U)
+            → IsWrittenLoan (with_user_header_left domain.old (written_number (as_written sample.old)) user_header)
+            (as_written sample.old) }
+        ensures is { (user_header : U) → LoanHasUserHeader
+            (with_user_header_left domain.old (written_number (as_written sample.old)) user_header)
+            (written_key (as_written sample.old)) user_header }
         ensures reads { (user_header : U) (values : List T) → HasValues domain.old (written_number (as_written sample.old)) values
-            → HasValues (with_user_header_left domain.old (written_number (as_written sample.old)) user_header) (written_number (as_written sample.old)) values }
+            → HasValues (with_user_header_left domain.old (written_number (as_written sample.old)) user_header)
+            (written_number (as_written sample.old)) values }
         ensures header { (user_header : U) (header : Header) → LoanHasHeader domain.old (written_key (as_written sample.old)) header
-            → LoanHasHeader (with_user_header_left domain.old (written_number (as_written sample.old)) user_header) (written_key (as_written sample.new)) header }
-        ensures leaves { (user_header : U) → LeavesBut (written_loan (as_written sample.old)) domain.old (with_user_header_left domain.old (written_number (as_written sample.old)) user_header) }
+            → LoanHasHeader (with_user_header_left domain.old (written_number (as_written sample.old)) user_header)
+            (written_key (as_written sample.new)) header }
+        ensures leaves { (user_header : U) → LeavesBut (written_loan (as_written sample.old)) domain.old
+            (with_user_header_left domain.old (written_number (as_written sample.old)) user_header) }
     {
         crate::SampleMut::user_header_mut(domain, &mut sample.sample)
     }

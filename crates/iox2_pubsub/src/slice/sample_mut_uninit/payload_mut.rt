@@ -37,15 +37,23 @@ impl SampleMutUninit {
         ensures payload { HasUnwrittenCells domain.old (unwritten_number (as_unwritten sample.old)) result.now }
         ensures changes { (m : Messages T U) (s : State T U) (left : List (Option T)) → Shows domain.old m s
             → (l : Loan T U) × (s.loans (unwritten_number (as_unwritten sample.old)) ≡ Some l)
-            × Shows (with_cells_left domain.old (unwritten_number (as_unwritten sample.old)) left) m (with_loan s (unwritten_number (as_unwritten sample.old)) (Some (cells_changed left l))) }
-        ensures out { (left : List (Option T)) → IsUnwritten (with_cells_left domain.old (unwritten_number (as_unwritten sample.old)) left) (as_unwritten sample.old) }
-        ensures live { NeverWaits domain.old (unwritten_key (as_unwritten sample.old)) → (left : List (Option T)) → NeverWaitsUnwritten (with_cells_left domain.old (unwritten_number (as_unwritten sample.old)) left) (as_unwritten sample.old) }
-        ensures reads { (left : List (Option T)) → length left ≡ length result.now → HasUnwrittenCells (with_cells_left domain.old (unwritten_number (as_unwritten sample.old)) left) (unwritten_number (as_unwritten sample.old)) left }
+            × Shows (with_cells_left domain.old (unwritten_number (as_unwritten sample.old)) left) m
+            (with_loan s (unwritten_number (as_unwritten sample.old)) (Some (cells_changed left l))) }
+        ensures out { (left : List (Option T)) → IsUnwritten
+            (with_cells_left domain.old (unwritten_number (as_unwritten sample.old)) left) (as_unwritten sample.old) }
+        ensures live { NeverWaits domain.old (unwritten_key (as_unwritten sample.old)) → (left : List (Option T))
+            → NeverWaitsUnwritten (with_cells_left domain.old (unwritten_number (as_unwritten sample.old)) left)
+            (as_unwritten sample.old) }
+        ensures reads { (left : List (Option T)) → length left ≡ length result.now
+            → HasUnwrittenCells (with_cells_left domain.old (unwritten_number (as_unwritten sample.old)) left)
+            (unwritten_number (as_unwritten sample.old)) left }
         ensures header { (left : List (Option T)) (header : Header) → LoanHasHeader domain.old (unwritten_key (as_unwritten sample.old)) header
             → LoanHasHeader (with_cells_left domain.old (unwritten_number (as_unwritten sample.old)) left) (unwritten_key (as_unwritten sample.new)) header }
         ensures user_header { (left : List (Option T)) (header : U) → LoanHasUserHeader domain.old (unwritten_key (as_unwritten sample.old)) header
-            → LoanHasUserHeader (with_cells_left domain.old (unwritten_number (as_unwritten sample.old)) left) (unwritten_key (as_unwritten sample.new)) header }
-        ensures leaves { (left : List (Option T)) → LeavesBut (unwritten_loan (as_unwritten sample.old)) domain.old (with_cells_left domain.old (unwritten_number (as_unwritten sample.old)) left) }
+            → LoanHasUserHeader (with_cells_left domain.old (unwritten_number (as_unwritten sample.old)) left)
+            (unwritten_key (as_unwritten sample.new)) header }
+        ensures leaves { (left : List (Option T)) → LeavesBut (unwritten_loan (as_unwritten sample.old)) domain.old
+            (with_cells_left domain.old (unwritten_number (as_unwritten sample.old)) left) }
     {
         let at = find_live_loan(&domain.state, &sample.sample.loan);
         cells_at_mut(&mut domain.state, at)

@@ -34,15 +34,25 @@ impl SampleMutUninit {
         ensures user_header { LoanHasUserHeader domain.old (unwritten_key (as_unwritten sample.old)) result.now }
         ensures changes { (m : Messages T U) (s : State T U) (user_header : U) → Shows domain.old m s
             → (l : Loan T U) × (s.loans (unwritten_number (as_unwritten sample.old)) ≡ Some l)
-            × Shows (with_user_header_left domain.old (unwritten_number (as_unwritten sample.old)) user_header) m (with_loan s (unwritten_number (as_unwritten sample.old)) (Some (user_header_changed user_header l))) }
-        ensures out { (user_header : U) → IsUnwritten (with_user_header_left domain.old (unwritten_number (as_unwritten sample.old)) user_header) (as_unwritten sample.old) }
-        ensures live { NeverWaits domain.old (unwritten_key (as_unwritten sample.old)) → (user_header : U) → NeverWaitsUnwritten (with_user_header_left domain.old (unwritten_number (as_unwritten sample.old)) user_header) (as_unwritten sample.old) }
-        ensures is { (user_header : U) → LoanHasUserHeader (with_user_header_left domain.old (unwritten_number (as_unwritten sample.old)) user_header) (unwritten_key (as_unwritten sample.old)) user_header }
+            × Shows (with_user_header_left domain.old (unwritten_number (as_unwritten sample.old)) user_header) m
+            (with_loan s (unwritten_number (as_unwritten sample.old)) (Some (user_header_changed user_header l))) }
+        ensures out { (user_header : U) → IsUnwritten
+            (with_user_header_left domain.old (unwritten_number (as_unwritten sample.old)) user_header)
+            (as_unwritten sample.old) }
+        ensures live { NeverWaits domain.old (unwritten_key (as_unwritten sample.old)) → (user_header : U)
+            → NeverWaitsUnwritten (with_user_header_left domain.old (unwritten_number (as_unwritten sample.old))
+            user_header) (as_unwritten sample.old) }
+        ensures is { (user_header : U) → LoanHasUserHeader
+            (with_user_header_left domain.old (unwritten_number (as_unwritten sample.old)) user_header)
+            (unwritten_key (as_unwritten sample.old)) user_header }
         ensures reads { (user_header : U) (cells : List (Option T)) → HasUnwrittenCells domain.old (unwritten_number (as_unwritten sample.old)) cells
-            → HasUnwrittenCells (with_user_header_left domain.old (unwritten_number (as_unwritten sample.old)) user_header) (unwritten_number (as_unwritten sample.old)) cells }
+            → HasUnwrittenCells (with_user_header_left domain.old (unwritten_number (as_unwritten sample.old))
+            user_header) (unwritten_number (as_unwritten sample.old)) cells }
         ensures header { (user_header : U) (header : Header) → LoanHasHeader domain.old (unwritten_key (as_unwritten sample.old)) header
-            → LoanHasHeader (with_user_header_left domain.old (unwritten_number (as_unwritten sample.old)) user_header) (unwritten_key (as_unwritten sample.new)) header }
-        ensures leaves { (user_header : U) → LeavesBut (unwritten_loan (as_unwritten sample.old)) domain.old (with_user_header_left domain.old (unwritten_number (as_unwritten sample.old)) user_header) }
+            → LoanHasHeader (with_user_header_left domain.old (unwritten_number (as_unwritten sample.old))
+            user_header) (unwritten_key (as_unwritten sample.new)) header }
+        ensures leaves { (user_header : U) → LeavesBut (unwritten_loan (as_unwritten sample.old)) domain.old
+            (with_user_header_left domain.old (unwritten_number (as_unwritten sample.old)) user_header) }
     {
         crate::SampleMutUninit::user_header_mut(domain, &mut sample.sample)
     }

@@ -23,7 +23,8 @@ impl Subscriber {
         domain: &mut Domain<T, U, F, G>,
     )
         requires live { IsLiveSubscriber domain.old (as_subscriber self) }
-        ensures closed { (m : Messages T U) (s : State T U) (y : Record) → Shows domain.old m s → s.subscribers (subscriber_key (as_subscriber self)).port ≡ Some y
+        ensures closed { (m : Messages T U) (s : State T U) (y : Record) → Shows domain.old m s
+            → s.subscribers (subscriber_key (as_subscriber self)).port ≡ Some y
             → Shows domain.new m (subscriber_closed s (subscriber_key (as_subscriber self)).port y) }
         ensures spent { IsSubscriberKey domain.new (subscriber_key (as_subscriber self)) → ⊥ }
         ensures unboxed { subscriber_box domain.new (subscriber_key (as_subscriber self)).port ≡ None }

@@ -20,7 +20,8 @@ impl<T: Drop, U: Default + Drop, F: BackpressureFn, G: DegradationFn> UpdateConn
 
     ghost live_stays = { λ old new subscriber. subscriber_stays old new (as_subscriber subscriber) };
 
-    ghost updates = { λ old s subscriber s' failure. UpdateSubscriber (answers_of F.allows G.allows (old.boxes).subscribers) s (subscriber_id (as_subscriber subscriber)) s' failure };
+    ghost updates = { λ old s subscriber s' failure. UpdateSubscriber
+        (answers_of F.allows G.allows (old.boxes).subscribers) s (subscriber_id (as_subscriber subscriber)) s' failure };
 
     ghost is_updated = { λ domain subscriber. IsUpToDate domain (as_subscriber subscriber) };
 
