@@ -281,10 +281,10 @@ module _ {T U : Type 0} where
 
       module _ (s' : State T U) (t : IsTraced (scope_of (past_after past message)) s')
           (stays : (p q n : ℕ) → is_borrowed n (s.mailboxes p q) ≡ true → is_borrowed n (s'.mailboxes p q) ≡ true) where
-        sending : (o : Outcome T U) → o.state ≡ s' → o.event ≡ message → is_sample o.reply ≡ false
+        message_tells : (o : Outcome T U) → o.state ≡ s' → o.event ≡ message → is_sample o.reply ≡ false
             → names_sample o.handle ≡ false
             → IsOwn past.first_port past.first_message o.handle → Tells o
-        sending o same sends no_sample no_name named = record {
+        message_tells o same sends no_sample no_name named = record {
           traced = subst (λ (e : Event T U). IsTraced (scope_of (past_after past e)) o.state) (sym sends)
               (subst (IsTraced (scope_of (past_after past message))) (sym same) t);
           own = named;
@@ -335,9 +335,9 @@ module _ {T U : Type 0} where
           published_answers environment mid l.publisher n s' result
           (λ r. Tells (after_send s' l.publisher n (entry_of l) r))
           (λ count.
-          sending s' t stays (after_send s' l.publisher n (entry_of l) (Delivered_to count)) refl refl refl refl tt)
-          (sending s' t stays (after_send s' l.publisher n (entry_of l) Blocked_send) refl refl refl refl own)
-          (sending s' t stays
+          message_tells s' t stays (after_send s' l.publisher n (entry_of l) (Delivered_to count)) refl refl refl refl tt)
+          (message_tells s' t stays (after_send s' l.publisher n (entry_of l) Blocked_send) refl refl refl refl own)
+          (message_tells s' t stays
           (after_send s' l.publisher n (entry_of l) (Send_error UnableToDeliver)) refl refl refl refl tt)
           h
 
@@ -374,9 +374,9 @@ module _ {T U : Type 0} where
           → is_borrowed i ((h.0).mailboxes p q) ≡ true = λ p q i j. (g.0 p q).1 i ((f.0 p q).1 i j) in
           delivery_answers environment mid l.publisher n channel 0 no_time place
           (take 1 (drop place x.ends)) 0 false h.0 h.1 (λ r. Tells (after r))
-          (λ count. sending h.0 t stays (after (Delivered_to count)) refl refl refl refl tt)
-          (sending h.0 t stays (after Blocked_send) refl refl refl refl own)
-          (sending h.0 t stays (after (Send_error UnableToDeliver)) refl refl refl refl tt)
+          (λ count. message_tells h.0 t stays (after (Delivered_to count)) refl refl refl refl tt)
+          (message_tells h.0 t stays (after Blocked_send) refl refl refl refl own)
+          (message_tells h.0 t stays (after (Send_error UnableToDeliver)) refl refl refl refl tt)
           k))
 
       send_tells : (o : Outcome T U)

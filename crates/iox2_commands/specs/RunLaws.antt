@@ -1,5 +1,5 @@
 -- The laws of whole runs: order, what is read, and enough slots.
-use Rattle.std.specs.Prelude.{ℕ, Bool, true, if◌then◌else◌, List, length, take, ◌≡◌, ◌<◌, ◌≤◌, slice_get}
+use Rattle.std.specs.Prelude.{ℕ, Bool, true, cond, List, length, take, ◌≡◌, ◌<◌, ◌≤◌, slice_get}
 use Rattle.std.specs.Option.{option_map_or}
 use Rattle.std.specs.declared.option.Option.{Option}
 use Rattle.std.specs.declared.option.Option.TheVariants.{None, Some}
@@ -35,7 +35,7 @@ OfEachRun T U Holds =
     (may_refuse_memory : Bool) (m m' : Messages T U) (s s' : State T U) (commands : List (Command T U))
     (replies : List (Reply T U)) (events : List (Event T U))
     → IsWellFormed s
-    → Run (if may_refuse_memory then fixed_handlers else ample_memory) any_defaults m s commands replies events m' s'
+    → Run (cond may_refuse_memory fixed_handlers ample_memory) any_defaults m s commands replies events m' s'
     → Holds commands replies events
 
 -- Each publisher sent each number once. What a subscriber received from it is a subsequence of what it sent, in which
@@ -100,7 +100,7 @@ abbrev pub OfEachReachedState : (T U : Type 0) → (ServiceConfig → State T U 
 OfEachReachedState T U Holds =
     (may_refuse_memory : Bool) (c : ServiceConfig) (m' : Messages T U) (s' : State T U) (commands : List (Command T U))
     (replies : List (Reply T U)) (events : List (Event T U))
-    → Run (if may_refuse_memory then fixed_handlers else ample_memory) any_defaults no_messages
+    → Run (cond may_refuse_memory fixed_handlers ample_memory) any_defaults no_messages
     (fresh c) commands replies events m' s'
     → Holds c s'
 
