@@ -167,14 +167,14 @@ module _ {T U : Type 0} (c : ServiceConfig) (most : ℕ) (value : T) (slots : Op
       → Run ample_memory any_defaults no_messages (fresh c) (filling_commands c most value slots) replies events m s
       → slice_get replies 0 ≡ Some (PublisherMade 1)
   first_reply (reply ∷ replies) (event ∷ events) m s run =
-      let sound : IsSound (fresh c) run.4 = step_sound ample_memory run.0 run.1 no_messages (fresh c) []
-      (fresh_is_well_formed c) (publisher_command most slots) run.4 run.5 in
-      let begun : IsBegun c most slots run.4 =
-      publisher_step c most slots run.0 run.1 no_messages [] run.4 able.publishers
-      (fits_first c most able slots) run.5 sound.well_formed in
-      ap (λ (r : Reply T U). Some r) (sym run.6 ∙ begun.reply)
-  first_reply [] events m s run = absurd run
-  first_reply (reply ∷ replies) [] m s run = absurd run
+      let sound : IsSound (fresh c) (run.1).4 = step_sound ample_memory (run.1).0 (run.1).1 no_messages (fresh c) []
+      (fresh_is_well_formed c) (publisher_command most slots) (run.1).4 (run.1).5 in
+      let begun : IsBegun c most slots (run.1).4 =
+      publisher_step c most slots (run.1).0 (run.1).1 no_messages [] (run.1).4 able.publishers
+      (fits_first c most able slots) (run.1).5 sound.well_formed in
+      ap (λ (r : Reply T U). Some r) (sym (run.1).6 ∙ begun.reply)
+  first_reply [] events m s run = absurd run.1
+  first_reply (reply ∷ replies) [] m s run = absurd run.1
 
   -- in the end the publisher holds the worst case
   publisher_full : (replies : List (Reply T U)) (s : State T U) → Grants replies s
