@@ -131,7 +131,7 @@ impl<T: Drop, U: Default + Drop> Content<T, U> {
 impl<T: Drop, U> Content<T, U> {
     /// Lists the cells, which wait for a list, in one of their publisher's lists.
     pub(crate) fn put_list(&mut self, list: Vec<Option<T>>)
-        requires slot_waits { slot_waits self.old ≡ true }
+        requires waits { slot_waits self.old ≡ true }
         requires empty { list.items ≡ [] }
         requires room { self.old.content.room ≤ vec_capacity list }
         requires wide { 1 < vec_capacity list }

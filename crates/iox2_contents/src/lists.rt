@@ -60,7 +60,7 @@ pub(crate) fn ready<T: Drop, U>(
 #[inline(never)]
 fn hand_out<T: Drop, U>(slots: &mut Vec<Content<T, U>>, lists: &mut CellLists<T>, slot: usize)
     requires lists { HasLists lists.old.most lists.old.spare lists.old.room slots.old.items }
-    requires slot_waits { IsSomeAnd (slice_get slots.old.items slot) (λ s. slot_waits s ≡ true) }
+    requires waits { IsSomeAnd (slice_get slots.old.items slot) (λ s. slot_waits s ≡ true) }
     ensures same { contents_of lists.new.room slots.new.items ≡ contents_of lists.old.room slots.old.items }
     ensures lists { HasLists lists.new.most lists.new.spare lists.new.room slots.new.items }
     ensures ready { IsSomeAnd (slice_get slots.new.items slot) (λ s. slot_waits s ≡ false) }
