@@ -7,6 +7,7 @@ pub mod AnySends
 pub mod SentSlots
 pub mod SendEnded
 pub mod Trimmed
+pub mod Publishing
 pub mod Published
 pub mod GoneOn
 pub mod BlockedSteps

@@ -62,7 +62,7 @@ use Rattle.iox2_domain.proofs.lemmas.slots.Rebooked.{CanRebook, rebooked, rebook
 use Rattle.iox2_domain.proofs.lemmas.slots.Rebooked.{rebooked-places, rebooked-keeps, rebooked-kept}
 use Rattle.iox2_steps.proofs.sends.LoanAlone.{once-times}
 use Rattle.iox2_steps.proofs.sends.SentSlots.{times-without-one, map-without}
-use Rattle.iox2_steps.proofs.sends.Published.{taking-are}
+use Rattle.iox2_steps.proofs.sends.Publishing.{taking-are}
 use Rattle.iox2_steps.proofs.sends.Reach.{reach-ends, reach-from, reach-stays, stops-within}
 use Rattle.iox2_domain.proofs.lemmas.loans.PublisherChanges.{other_slots}
 use Rattle.iox2_domain.proofs.lemmas.slots.Holders.{book-by_id}

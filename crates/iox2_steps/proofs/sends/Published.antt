@@ -1,48 +1,38 @@
 -- A publisher's loan is published: it goes to its receivers, and is out no more.
-use Rattle.std.proofs.Common.{◌≡◌, ◌≢◌, ℕ, le_refl, ◌<◌, ◌≤◌, ◌||◌, true, false, cond, List, [], ◌∷◌, ◌++◌, length, map}
-use Rattle.std.proofs.Common.{get_or, refl, ap, sym, subst, ◌∙◌, inl, inr, ⊎_elim, arith, set-set, Bool, ◌+◌, drop, ◌⊎◌}
-use Rattle.std.proofs.lemmas.Bool.{cases_eq, ne_eqb, eq-eqb}
+use Rattle.std.proofs.Common.{◌≡◌, ◌≢◌, ℕ, le_refl, ◌<◌, ◌≤◌, ◌||◌, true, false, List, [], ◌∷◌, ◌++◌, length, map}
+use Rattle.std.proofs.Common.{get_or, refl, ap, sym, subst, ◌∙◌, inl, inr, arith, set-set, Bool, ◌+◌, drop, ◌⊎◌}
+use Rattle.std.proofs.lemmas.Bool.{cases_eq, eq-eqb}
 use Rattle.std.proofs.lemmas.List.{length-map, length-set}
 use Rattle.std.proofs.lemmas.Option.{same_Some}
 use Rattle.std.specs.Prelude.{slice_get, slice_set, nat_lt}
 use Rattle.std.specs.declared.option.Option.{Option}
 use Rattle.std.specs.declared.option.Option.TheVariants.{None, Some}
-use Rattle.std.specs.Option.{option_map, option_and_then, option_map_or}
-use Rattle.slab.specs.Slab.{get, Slab, with_value}
+use Rattle.std.specs.Option.{option_map, option_map_or}
+use Rattle.slab.specs.Slab.{get, Slab}
 use Rattle.iox2_machine.specs.machine.Delivery.{Deliver, no_time, DeliveryEnd}
 use Rattle.iox2_machine.specs.machine.Loans.{entry_of}
 use Rattle.iox2_slots.specs.SlotBook.{Book, IsInUse, holders_at}
-use Rattle.iox2_machine.specs.machine.Mailbox.{Mailbox, numbers_in}
+use Rattle.iox2_machine.specs.machine.Mailbox.{Mailbox}
 use Rattle.iox2_machine.specs.machine.Numbers.{put_at, contains, without, last_n}
-use Rattle.iox2_machine.specs.machine.Records.{Entry, Loan, Publisher, Subscriber, Environment, BlockedSend}
+use Rattle.iox2_machine.specs.machine.Records.{Entry, Loan, Publisher, Environment, BlockedSend}
 use Rattle.iox2_machine.specs.machine.Sends.{Publish, published, send_ended, with_mailboxes, SendResult, Blocked_send}
 use Rattle.iox2_machine.specs.machine.Sends.{ConcludeSend, send_blocked}
-use Rattle.iox2_machine.specs.Stored.{IsHeldMessage, In_history, In_mailbox, In_blocked_send}
-use Rattle.iox2_machine.specs.machine.State.{State, receiving_buffer, channel_buffer, publisher_changed}
+use Rattle.iox2_machine.specs.Stored.{IsHeldMessage}
+use Rattle.iox2_machine.specs.machine.State.{State, channel_buffer, publisher_changed}
 use Rattle.iox2_machine.specs.machine.WellFormed.{IsWellFormed}
 use Rattle.iox2_connections.specs.Counters.{times, with_counters, one_holder_more}
-use Rattle.iox2_connections.specs.LookUp.{look_up, IsOnly}
 use Rattle.iox2_connections.specs.Mailboxes.{mailboxes_of}
-use Rattle.iox2_connections.specs.Receivers.{buffers_of, taking_buffers, buffer_if_open, has_id}
 use Rattle.iox2_connections.proofs.MailboxChanges.{others-stay, one-put, both-true}
 use Rattle.iox2_laws.proofs.Altered.{same_state}
-use Rattle.iox2_machine.specs.machine.Channel.{Channel, is_closed}
-use Rattle.iox2_domain.proofs.lemmas.fields.KeptChannels.{channels-are}
 use Rattle.iox2_laws.proofs.DeliveryLaws.{Delivered, deliver_is, all_from}
-use Rattle.iox2_laws.proofs.MailboxLemmas.{contains_in_appended}
-use Rattle.iox2_laws.proofs.NumberLemmas.{contains_in_append, contains_in_last_n}
-use Rattle.iox2_laws.proofs.Puts.{put_at-same, put_at-other, at_each, found_put, put_at-twice}
+use Rattle.iox2_laws.proofs.Puts.{put_at-same, put_at-other, at_each, put_at-twice}
 use Rattle.iox2_laws.proofs.SendLaws.{publish_keeps}
-use Rattle.iox2_domain.specs.Ports.{PublisherFields, SubscriberFields}
-use Rattle.iox2_domain.specs.Kept.{Named, Lent_message, Sent_message, state_of, entries_of, is_named, entry_in}
-use Rattle.iox2_domain.specs.Kept.{KeptMessage}
-use Rattle.iox2_domain.specs.Fields.{Fields, kept_of, publisher_of, subscriber_of, number_in_slot, blocked_send}
-use Rattle.iox2_domain.specs.Fields.{contents_at}
-use Rattle.iox2_domain.specs.Invariant.{IsDomain, IsOwned, KeepsBooks, HasNumber, details_of, is_publisher}
-use Rattle.iox2_domain.specs.Invariant.{is_subscriber, HasLoneLoans, HasParts, is_lent}
+use Rattle.iox2_domain.specs.Ports.{PublisherFields}
+use Rattle.iox2_domain.specs.Kept.{Lent_message, Sent_message, state_of, entries_of, entry_in, KeptMessage}
+use Rattle.iox2_domain.specs.Fields.{Fields, kept_of, publisher_of, number_in_slot, blocked_send, contents_at}
+use Rattle.iox2_domain.specs.Invariant.{IsDomain, IsOwned, KeepsBooks, HasNumber, HasLoneLoans, HasParts, is_lent}
 use Rattle.iox2_domain.specs.Deliveries.{SendsSlot, with_loan_out, pushed, leaving, with_sent, with_left, DeliversFrom}
 use Rattle.iox2_domain.specs.Deliveries.{result_of_delivery}
-use Rattle.iox2_domain.proofs.lemmas.containers.LookUps.{look_up-map}
 use Rattle.iox2_domain.proofs.lemmas.fields.Views.{mailboxes-are, unblocked}
 use Rattle.iox2_domain.proofs.lemmas.fields.ConnectionEnds.{publisher-stands}
 use Rattle.iox2_domain.proofs.lemmas.slots.Messages.{lies_at, in_use_within, has_number, entry-found, message_in-parts}
@@ -79,74 +69,10 @@ use Rattle.iox2_steps.proofs.sends.SentSlots.{times-without-one}
 use mathlib.Core.Path.{fun_ext}
 use Rattle.iox2_domain.proofs.lemmas.fields.KeptBooks.{kept-own}
 use Rattle.iox2_laws.proofs.Cases.{match_some}
-use Rattle.iox2_domain.proofs.lemmas.fields.NamedPorts.{named-stands}
 use Rattle.iox2_domain.specs.KeptPlaces.{KeepsPlaces}
 use Rattle.iox2_domain.proofs.lemmas.fields.PlacesKept.{places-back, places-then}
-
--- The fields after the publisher x, which stands at that place, has sent the loan in the slot of its book. The loan's
--- one holder is the history now.
-abbrev pub with_send_ended : {T U : Type 0} → Fields T U → (place : ℕ) → PublisherFields → (slot : ℕ) → Book
-    → Fields T U
-with_send_ended f place x slot book = record f {
-  publishers = slice_set f.publishers place (Some (record (with_loan_out slot x) { history = pushed x.history slot }));
-  books = with_value f.books x.book (with_left (leaving x.history slot) (with_sent slot book));
-}
-
--- The fields after the publisher x, which stands at that place, has sent the loan in the slot of its book, and waits
--- for a receiver. The loan is out still, and the history is one holder more.
-abbrev pub with_send_blocked : {T U : Type 0} → Fields T U → (place : ℕ) → PublisherFields → (slot : ℕ) → Progress
-    → Book → Fields T U
-with_send_blocked f place x slot progress book = record f {
-  publishers = slice_set f.publishers place
-      (Some (record x {
-        history = pushed x.history slot;
-        blocked = Some (record { slot = slot; channel = 0; is_alone = false; progress = progress });
-      }));
-  books = with_value f.books x.book
-      (with_left (leaving x.history slot) (with_counters (with_sent slot book) (one_holder_more slot book.holders)));
-}
-
--- The loan n of the publisher p was published, with this result. Its entry may be newly kept, and no other is.
-pub record Publishes {T U : Type 0} (environment : Environment) (old new : Fields T U) (p n : ℕ) (l : Loan T U)
-    (result : SendResult) : Type 0 where
-  pub agrees : IsDomain new
-  pub publishes : Publish environment (state_of (kept_of old)) p n (state_of (kept_of new)) result
-  pub loans : (state_of (kept_of new)).loans ≡ put_at (state_of (kept_of old)).loans n None
-  pub entries : (m : ℕ) (entry : Entry T U) → entries_of (kept_of new) m ≡ Some entry
-      → ((m ≡ n) × (entry ≡ entry_of l)) ⊎ (entries_of (kept_of old) m ≡ Some entry)
-  pub places : KeepsPlaces old new
-
--- a publisher that stands somewhere is in the state, where ids are apart
-named : {T U : Type 0} (f : Fields T U) → ((p : ℕ) → IsOnly (is_publisher p) f.publishers)
-    → (i : ℕ) (x : PublisherFields) → get_or f.publishers i None ≡ Some x
-    → (state_of (kept_of f)).publishers x.id ≡ Some ((publisher_of f.books f.connections x).port)
-named f ids i x at = named-stands (publisher_of f.books f.connections) x.id f.publishers (ids x.id) i x at refl
-
-module _ {T U : Type 0} (f : Fields T U) where
-  -- the machine's buffers are those that the delivery sees
-  pub buffers-are : buffers_of (map (option_map details_of) f.subscribers) ≡ receiving_buffer (state_of (kept_of f))
-  buffers-are = fun_ext (λ q.
-      ap (option_and_then buffer_if_open) (look_up-map (has_id q) details_of f.subscribers)
-      ∙ by (look_up (is_subscriber q) f.subscribers)
-      ∙ sym (ap (λ o. takes (option_map (λ (z : Named Subscriber). z.port) o))
-      (look_up-map (is_named q) (subscriber_of f.books f.connections) f.subscribers)))
-    where
-      takes : Option Subscriber → Option ℕ
-      takes o = option_and_then (λ (y : Subscriber). cond y.is_open (Some y.buffer) None) o
-
-      by : (o : Option SubscriberFields) → option_and_then buffer_if_open (option_map details_of o)
-          ≡ takes (option_map (λ (z : Named Subscriber). z.port) (option_map (subscriber_of f.books f.connections) o))
-      by None = refl
-      by (Some y) = refl
-
-  -- of those that take messages of a publisher too
-  pub taking-are : (p channel : ℕ) → taking_buffers f.connections p channel
-      (map (option_map details_of) f.subscribers) ≡ channel_buffer (state_of (kept_of f)) p channel
-  taking-are p channel = fun_ext (λ q.
-      ap (λ (channels : ℕ → ℕ → ℕ → Channel). cond (is_closed (channels p q channel)) None
-      (buffers_of (map (option_map details_of) f.subscribers) q)) (sym (channels-are f))
-      ∙ ap (λ (buffers : ℕ → Option ℕ). cond (is_closed ((state_of (kept_of f)).channels p q channel)) None (buffers q))
-      buffers-are)
+use Rattle.iox2_steps.proofs.sends.Publishing.{with_send_ended, with_send_blocked, Publishes, named, taking-are}
+use Rattle.iox2_steps.proofs.sends.Publishing.{with_published, held-mid, held-before-send}
 
 module _ {T U : Type 0} (environment : Environment) (f : Fields T U) (sound : IsDomain f) (i : ℕ) (x : PublisherFields)
     (here : get_or f.publishers i None ≡ Some x)
@@ -482,55 +408,12 @@ module _ {T U : Type 0} (environment : Environment) (f : Fields T U) (sound : Is
 
   -- the state in which the loan is a message, with this record of its publisher
   abbrev with_port : Publisher → State T U
-  with_port z =
-      record s { mailboxes = boxes; publishers = put_at s.publishers x.id (Some z); loans = put_at s.loans n None }
-
-  -- who holds another message afterwards held it after the delivery
-  held-mid : (z : Publisher) → z.history ≡ last_n (f.config).history_size (port.history ++ n ∷ [])
-      → ((c : BlockedSend) → z.blocked ≡ Some c → c.message ≡ n)
-      → (q m : ℕ) → m ≢ n → IsHeldMessage (with_port z) q m → IsHeldMessage (record s { mailboxes = boxes }) q m
-  held-mid z longer waiting q m away (In_history y at is) =
-      found_put s.publishers x.id z
-      (λ j v. contains v.history m ≡ true → IsHeldMessage (record s { mailboxes = boxes }) j m) q y at
-      (λ _ h. In_history port stands (⊎_elim (λ old. old) (λ new. absurd (away (alone new)))
-      (contains_in_append port.history (n ∷ []) m
-      (contains_in_last_n (f.config).history_size (port.history ++ n ∷ []) m
-      (ap (λ ns. contains ns m) (sym longer) ∙ h)))))
-      (λ _ there h. In_history y there h) is
-    where
-      alone : contains (n ∷ []) m ≡ true → m ≡ n
-      alone h = elim (cases_eq n m) [
-        | inl same ↦ sym same
-        | inr differs ↦ absurd (let no : false ≡ true = sym (ap (λ t. t || false) (ne_eqb n m differs)) ∙ h in cc)
-      ]
-  held-mid z longer waiting q m away (In_mailbox r is) = In_mailbox r is
-  held-mid z longer waiting q m away (In_blocked_send y b at waits is) =
-      found_put s.publishers x.id z
-      (λ j v. v.blocked ≡ Some b → IsHeldMessage (record s { mailboxes = boxes }) j m) q y at
-      (λ _ h. absurd (away (sym is ∙ waiting b h))) (λ _ there h. In_blocked_send y b there h is) waits
+  with_port = with_published s x.id n boxes
 
   delivered : Delivered (channel_buffer s x.id 0) n 0 port.ends port.ends (s.mailboxes x.id) how (boxes x.id)
   delivered = deliver_is environment f.config x.id x.strategy x.backpressure_handler
       (channel_buffer s x.id 0) n 0 0 no_time 0 port.ends 0 false port.ends (s.mailboxes x.id) how (boxes x.id)
       (sound.well_formed.publishers x.id port stands).ends_apart (all_from port.ends 0) (le_refl 0) delivers
-
-  -- and before it
-  held-before-send : (q m : ℕ) → m ≢ n → IsHeldMessage (record s { mailboxes = boxes }) q m → IsHeldMessage s q m
-  held-before-send q m away (In_history y at is) = In_history y at is
-  held-before-send q m away (In_blocked_send y b at waits is) = In_blocked_send y b at waits is
-  held-before-send q m away (In_mailbox r is) = elim (cases_eq q x.id) [
-    | inl same ↦ In_mailbox r (ap (λ p. contains (numbers_in (s.mailboxes p r)) m) same
-        ∙ row (ap (λ p. contains (numbers_in (boxes p r)) m) (sym same) ∙ is))
-    | inr other ↦ In_mailbox r (ap (λ box. contains (numbers_in box) m) (sym (other-boxes q r other)) ∙ is)
-  ]
-    where
-      row : contains (numbers_in (boxes x.id r)) m ≡ true → contains (numbers_in (s.mailboxes x.id r)) m ≡ true
-      row h = ⊎_elim
-          (λ same. ap (λ box. contains (numbers_in box) m) (sym same) ∙ h)
-          (λ put. ⊎_elim (λ is_n. absurd (away is_n)) (λ was. was)
-          (contains_in_appended 0 (put.1).0 n (s.mailboxes x.id r) m
-          (ap (λ box. contains (numbers_in box) m) (sym (put.1).2) ∙ h)))
-          (delivered.each r)
 
   -- each message that somebody holds has its entry, where those of the remembered fields are kept
   module _ (h : Fields T U) (parts-h : HasParts h) (z : Publisher)
@@ -571,8 +454,10 @@ module _ {T U : Type 0} (environment : Environment) (f : Fields T U) (sound : Is
       others : m ≢ n → (entry : Entry T U) × (entries_of (kept_of h) m ≡ Some entry) × ((entry.header).publisher_id ≡ q)
       others away =
           let in_mid : IsHeldMessage (record s { mailboxes = boxes }) q m =
-          held-mid z longer waiting q m away (subst (λ t. IsHeldMessage t q m) h-is is) in
-          let old = sound.entries q m (held-before-send q m away in_mid) in
+          held-mid s x.id n port stands boxes (f.config).history_size z longer waiting q m away
+          (subst (λ t. IsHeldMessage t q m) h-is is) in
+          let old = sound.entries q m (held-before-send s x.id n port stands boxes
+          (channel_buffer s x.id 0) how delivered other-boxes q m away in_mid) in
           let kept : entries_of (kept_of mid) m ≡ Some old.0 =
           recounted-keeps f sound x.id x.book d.book d.stands own d.holders d.connections d.recounts q m old.0
           (subst (λ t. IsHeldMessage t q m) (sym mid-is) in_mid) old.1 in (

@@ -33,7 +33,8 @@ use Rattle.iox2_domain.proofs.lemmas.fields.ConnectionEnds.{publisher-stands}
 use Rattle.iox2_steps.proofs.sends.LoanAlone.{loan-once, loan-alone, loan-own}
 use Rattle.iox2_domain.proofs.lemmas.slots.Messages.{lies_at, message_at-slot}
 use Rattle.iox2_steps.proofs.sends.DeliverySteps.{never-fails}
-use Rattle.iox2_steps.proofs.sends.Published.{send-publishes, Publishes}
+use Rattle.iox2_steps.proofs.sends.Published.{send-publishes}
+use Rattle.iox2_steps.proofs.sends.Publishing.{Publishes}
 use Rattle.iox2_domain.proofs.lemmas.loans.LoanSlots.{book-its}
 use Rattle.iox2_steps.proofs.updates.SenderUpdates.{idle-updates}
 use Rattle.iox2_laws.proofs.Cases.{match_some}
