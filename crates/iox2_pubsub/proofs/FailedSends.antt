@@ -18,6 +18,7 @@ use Rattle.iox2_machine.specs.declared.errors.ConnectionFailure.{ConnectionFailu
 use Rattle.iox2_machine.specs.declared.errors.SendError.{SendError}
 use Rattle.iox2_machine.specs.declared.errors.SendError.TheVariants.{ConnectionBrokenSinceSenderNoLongerExists}
 use Rattle.iox2_machine.specs.declared.errors.SendError.TheVariants.{ConnectionError, UnableToDeliver}
+use Rattle.iox2_laws.specs.Sendings.{sending}
 use Rattle.iox2_laws.proofs.Cases.{by_option, by_bool}
 use Rattle.iox2_laws.proofs.PlaceLemmas.{IsOnce-occupants, contains-occupants}
 use Rattle.iox2_laws.proofs.PublisherUpdates.{update_publisher_keeps}
@@ -56,7 +57,7 @@ failed-end s p n (Suspended b) s' error h = let clash : Send_error error ≡ Blo
 module _ {T U : Type 0} (environment : Environment) where
   failed-delivery : (s : State T U) (p n retries : ℕ) (elapsed : Duration) (place : ℕ) (ends : List (Option ℕ))
       (count : ℕ) (failed : Bool) (s' : State T U) (error : SendError)
-      → DeliverAndConclude environment s p n 0 retries elapsed place ends count failed s' (Send_error error)
+      → DeliverAndConclude environment s p (sending n 0 retries place ends count failed) elapsed s' (Send_error error)
       → error ≡ UnableToDeliver
   failed-delivery s p n retries elapsed place ends count failed s' error h =
       by_option (error ≡ UnableToDeliver) (s.publishers p) _ _ h (λ _ v. absurd v)

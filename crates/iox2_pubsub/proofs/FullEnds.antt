@@ -21,6 +21,7 @@ use Rattle.iox2_machine.specs.declared.backpressure.BackpressureStrategy.{Backpr
 use Rattle.iox2_machine.specs.declared.errors.ConnectionFailure.{ConnectionFailure}
 use Rattle.iox2_machine.specs.declared.errors.SendError.TheVariants.{UnableToDeliver}
 use Rattle.iox2_machine.specs.declared.service_config.ServiceConfig.{ServiceConfig}
+use Rattle.iox2_laws.specs.Sendings.{sending}
 use Rattle.iox2_laws.proofs.Cases.{by_option, by_bool}
 use Rattle.iox2_laws.proofs.NumberLemmas.{contains_first, contains_later}
 use Rattle.iox2_laws.proofs.PlaceLemmas.{IsOnce-occupants, contains-occupants}
@@ -135,7 +136,7 @@ pub record StopsFull {T U : Type 0} (s s' : State T U) (p n : ℕ) : Type 0 wher
 module _ {T U : Type 0} (environment : Environment) where
   pub goes-on-stops : (s : State T U) (p n retries : ℕ) (elapsed : Duration) (place : ℕ) (ends : List (Option ℕ))
       (count : ℕ) (has_failed : Bool) (s' : State T U) → IsOnce (occupants ends)
-      → DeliverAndConclude environment s p n 0 retries elapsed place ends count has_failed s' Blocked_send
+      → DeliverAndConclude environment s p (sending n 0 retries place ends count has_failed) elapsed s' Blocked_send
       → Stops s s' p n ends
   goes-on-stops s p n retries elapsed place ends count has_failed s' once h =
       by_option (Stops s s' p n ends) (s.publishers p) _ _ h (λ _ v. absurd v)

@@ -18,6 +18,7 @@ use Rattle.iox2_machine.specs.declared.backpressure.BackpressureAction.{Backpres
 use Rattle.iox2_machine.specs.declared.backpressure.BackpressureStrategy.{BackpressureStrategy}
 use Rattle.iox2_machine.specs.declared.errors.SendError.{SendError}
 use Rattle.iox2_machine.specs.declared.service_config.ServiceConfig.{ServiceConfig}
+use Rattle.iox2_laws.specs.Sendings.{sending}
 use Rattle.iox2_laws.proofs.Cases.{by_option, by_bool}
 use Rattle.iox2_laws.proofs.NumberLemmas.{absent_one}
 use Rattle.iox2_laws.proofs.PlaceLemmas.{is_port-false}
@@ -149,30 +150,31 @@ module _ {T U F G : Type 0} (old new : Kept T U F G) (m : Messages T U) (s : Sta
       ))
       (λ x here k. (touched x k, by channel refl x here k))
     where
-      touched : (x : Publisher) → DeliverAndConclude environment (with_loan s n None) l.publisher n channel 0 no_time
-          place (take 1 (drop place x.ends)) 0 false s' (result_of_send result) → TouchesOnly s s' l.publisher
+      touched : (x : Publisher) → DeliverAndConclude environment (with_loan s n None) l.publisher
+          (sending n channel 0 place (take 1 (drop place x.ends)) 0 false) no_time s' (result_of_send result)
+          → TouchesOnly s s' l.publisher
       touched x k =
           let it = goes-on-touches environment (with_loan s n None) l.publisher n channel 0 no_time place
           (take 1 (drop place x.ends)) 0 false s' (result_of_send result) k in
           record { others = record { ports = it.others.ports; lie = it.others.lie }; subscribers = it.subscribers }
 
       by : (i : ℕ) → channel ≡ i → (x : Publisher) → s.publishers l.publisher ≡ Some x
-          → DeliverAndConclude environment (with_loan s n None) l.publisher n channel 0 no_time place
-          (take 1 (drop place x.ends)) 0 false s' (result_of_send result)
+          → DeliverAndConclude environment (with_loan s n None) l.publisher
+          (sending n channel 0 place (take 1 (drop place x.ends)) 0 false) no_time s' (result_of_send result)
           → (s'.mailboxes l.publisher other.id).waiting ≡ (s.mailboxes l.publisher other.id).waiting
       by zero e x here k =
           ap (λ (b : Mailbox). b.waiting) (goes-on-leaves environment (with_loan s n None) l.publisher n 0 no_time place
           (take 1 (drop place x.ends)) 0 false s' (result_of_send result)
-          (subst (λ (i : ℕ). DeliverAndConclude environment (with_loan s n None) l.publisher n i 0 no_time place
-          (take 1 (drop place x.ends)) 0 false s' (result_of_send result)) e k) other.id
+          (subst (λ (i : ℕ). DeliverAndConclude environment (with_loan s n None) l.publisher
+          (sending n i 0 place (take 1 (drop place x.ends)) 0 false) no_time s' (result_of_send result)) e k) other.id
           (one-or-none x.ends place other.id (λ at. away e (is-at other x here at)))).0
       by (suc i) e x here k =
           elsewhere i
-          (subst (λ (i : ℕ). DeliverAndConclude environment (with_loan s n None) l.publisher n i 0 no_time place
-          (take 1 (drop place x.ends)) 0 false s' (result_of_send result)) e k)
+          (subst (λ (i : ℕ). DeliverAndConclude environment (with_loan s n None) l.publisher
+          (sending n i 0 place (take 1 (drop place x.ends)) 0 false) no_time s' (result_of_send result)) e k)
         where
-          elsewhere : (i : ℕ) → DeliverAndConclude environment (with_loan s n None) l.publisher n
-              (suc i) 0 no_time place (take 1 (drop place x.ends)) 0 false s' (result_of_send result)
+          elsewhere : (i : ℕ) → DeliverAndConclude environment (with_loan s n None) l.publisher
+              (sending n (suc i) 0 place (take 1 (drop place x.ends)) 0 false) no_time s' (result_of_send result)
               → (s'.mailboxes l.publisher other.id).waiting ≡ (s.mailboxes l.publisher other.id).waiting
           elsewhere i k =
               by_option ((s'.mailboxes l.publisher other.id).waiting ≡ (s.mailboxes l.publisher other.id).waiting)
