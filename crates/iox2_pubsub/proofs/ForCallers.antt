@@ -37,8 +37,8 @@ use Rattle.iox2_pubsub.specs.declared.subscriber.Subscriber.{Subscriber}
 use Rattle.iox2_pubsub.proofs.LiveParts.{buffer-parts}
 use Rattle.iox2_pubsub.proofs.PublisherWaits.{only-from, part-of, served-joins}
 use Rattle.iox2_pubsub.proofs.ShareSums.{shares-part}
-use Rattle.iox2_pubsub.proofs.StaysBut.{both-new, consistent-shown, new-since, passed-parts, pending-parts}
-use Rattle.iox2_pubsub.proofs.StaysBut.{sent-copy-part, stays-but-whole, stays-on, stays-twice}
+use Rattle.iox2_pubsub.proofs.StaysBut.{consistent-shown, passed-parts, pending-parts}
+use Rattle.iox2_pubsub.proofs.StaysOn.{both-new, new-since, sent-copy-part, stays-but-whole, stays-on, stays-twice}
 use Rattle.iox2_pubsub.proofs.WaitingShown.{payloads-from-are}
 
 -- a domain that shows some state is consistent, and one that is shows some

@@ -15,7 +15,7 @@ use Rattle.iox2_pubsub.specs.declared.blocked_send.BlockedSend.{BlockedSend}
 use Rattle.iox2_pubsub.specs.declared.send_outcome.SendOutcome.{SendOutcome}
 use Rattle.iox2_pubsub.proofs.LiveParts.{unblocked-alike}
 use Rattle.iox2_pubsub.proofs.ReceiversAhead.{since-again, where-blocked}
-use Rattle.iox2_pubsub.proofs.StaysBut.{stays-since-block}
+use Rattle.iox2_pubsub.proofs.StaysOn.{stays-since-block}
 
 module _ {T U F G : Type 0} (kept new : Kept T U F G) (waited : BlockedSend)
     (outcome : Result SendOutcome SendError) where

@@ -30,6 +30,7 @@ pub mod PublishersShown
 pub mod ReceptionShown
 pub mod LiveParts
 pub mod StaysBut
+pub mod StaysOn
 pub mod PlacedHandles
 pub mod PlacedLoans
 mod ReadyPublishers

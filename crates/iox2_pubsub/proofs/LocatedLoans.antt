@@ -39,7 +39,7 @@ use Rattle.iox2_pubsub.proofs.GrantedLoans.{granted-publisher, is-lent, next}
 use Rattle.iox2_pubsub.proofs.LiveParts.{never-waits-alike}
 use Rattle.iox2_pubsub.proofs.LoanHandles.{unwritten-out}
 use Rattle.iox2_pubsub.proofs.PlacedHandles.{StandsAtPlace, publisher-at-place}
-use Rattle.iox2_pubsub.proofs.StaysBut.{stays-on}
+use Rattle.iox2_pubsub.proofs.StaysOn.{stays-on}
 use Rattle.iox2_pubsub.proofs.SureLoans.{sure-granted, sure-of-loan}
 use Rattle.iox2_pubsub.proofs.UninitLoans.{loan-places, err-shown, ok-cells, ok-shown}
 use Rattle.iox2_pubsub.proofs.WrittenLoanCalls.{default-grants, default-refused}

@@ -8,8 +8,8 @@ use Rattle.iox2_pubsub.specs.Live.{A_publisher, A_subscriber, Both, IsNewIn, IsO
 use Rattle.iox2_pubsub.specs.Live.{IsOtherPublisher, IsOtherSample, IsOtherSubscriber, Item, StaysBut, publisher_ports}
 use Rattle.iox2_pubsub.specs.Live.{subscriber_key, subscriber_ports}
 use Rattle.iox2_pubsub.specs.declared.subscriber.Subscriber.{Subscriber}
-use Rattle.iox2_pubsub.proofs.StaysBut.{both-new, first-part, nothing-is-new, second-part, stays-but-whole}
-use Rattle.iox2_pubsub.proofs.StaysBut.{stays-itself, stays-twice}
+use Rattle.iox2_pubsub.proofs.StaysBut.{nothing-is-new, stays-itself}
+use Rattle.iox2_pubsub.proofs.StaysOn.{both-new, first-part, second-part, stays-but-whole, stays-twice}
 
 module _ {T U F G : Type 0} where
   -- what one call spends, and then another, is both

@@ -25,7 +25,7 @@ use Rattle.iox2_laws.proofs.Puts.{put_at-same}
 use Rattle.iox2_domain.specs.Kept.{Kept, state_of}
 use Rattle.iox2_pubsub.specs.BlockedSends.{StaysSince, places_ahead, receivers_ahead}
 use Rattle.iox2_pubsub.specs.Live.{StaysBut, blocked_item}
-use Rattle.iox2_pubsub.proofs.StaysBut.{stays-twice}
+use Rattle.iox2_pubsub.proofs.StaysOn.{stays-twice}
 use Rattle.iox2_pubsub.specs.SendCalls.{IfBlocked, result_of_send}
 use Rattle.iox2_pubsub.specs.declared.blocked_send.BlockedSend.{BlockedSend as Handle}
 use Rattle.iox2_pubsub.specs.declared.send_outcome.SendOutcome.{SendOutcome}

@@ -4,7 +4,7 @@ use Rattle.iox2_pubsub.specs.Live.{IsNewIn, IsOtherBlocked, IsOtherPublisher, Is
 use Rattle.iox2_pubsub.specs.Live.{publisher_key, publisher_port, received_sample, subscriber_port, subscriber_ports}
 use Rattle.iox2_pubsub.specs.declared.publisher.Publisher.{Publisher}
 use Rattle.iox2_pubsub.proofs.PortLists.{subscribers_no_blocked, subscribers_no_publisher, subscribers_no_sample}
-use Rattle.iox2_pubsub.proofs.StaysBut.{new-since, stays-on}
+use Rattle.iox2_pubsub.proofs.StaysOn.{new-since, stays-on}
 use Rattle.iox2_request_response.specs.Handles.{HasPortsOf, IsLiveActive, IsLiveClient, IsLivePending, IsLiveResponse}
 use Rattle.iox2_request_response.specs.Handles.{IsLiveServer, IsNewClient, IsNewServer, StaysButActive, StaysButClient}
 use Rattle.iox2_request_response.specs.Handles.{StaysButResponse, StaysButServer}

@@ -11,8 +11,8 @@ use Rattle.iox2_pubsub.specs.Live.{subscriber_port, subscriber_ports}
 use Rattle.iox2_pubsub.specs.declared.publisher.Publisher.{Publisher}
 use Rattle.iox2_pubsub.specs.declared.subscriber.Subscriber.{Subscriber}
 use Rattle.iox2_pubsub.proofs.PortLists.{no_port_new, subscriber_closed_too, subscriber_new_too}
-use Rattle.iox2_pubsub.proofs.StaysBut.{both-new, first-part, new-since, part-new, second-part, stays-itself, stays-on}
-use Rattle.iox2_pubsub.proofs.StaysBut.{stays-twice, unchanged-stays}
+use Rattle.iox2_pubsub.proofs.StaysBut.{stays-itself, unchanged-stays}
+use Rattle.iox2_pubsub.proofs.StaysOn.{both-new, first-part, new-since, part-new, second-part, stays-on, stays-twice}
 use Rattle.iox2_request_response.specs.Handles.{IsLiveClient}
 use Rattle.iox2_request_response.specs.Ports.{HasNoNewSubscriber, IsGoneSubscriber}
 use Rattle.iox2_request_response.specs.Service.{StaysBoth}

@@ -3,7 +3,7 @@
 use Rattle.iox2_pubsub.specs.Live.{IsOtherBlocked, IsOtherPublisher, IsOtherSubscriber, Item, No_item, publisher_key}
 use Rattle.iox2_pubsub.specs.Live.{publisher_port, received_sample, subscriber_port}
 use Rattle.iox2_pubsub.specs.Handles.{publisher_id, subscriber_id}
-use Rattle.iox2_pubsub.proofs.StaysBut.{new-since, stays-on, stays-twice}
+use Rattle.iox2_pubsub.proofs.StaysOn.{new-since, stays-on, stays-twice}
 use Rattle.iox2_request_response.specs.Handles.{AreSeparateRequests, HasIdleOf, HasPortsOf, IsLiveActive, IsLiveClient}
 use Rattle.iox2_request_response.specs.Handles.{IsLivePending, IsLiveServer, IsNewActive, IsNewResponse, IsPendingOf}
 use Rattle.iox2_request_response.specs.Handles.{StaysButActive, StaysButClient, StaysButPending, StaysButResponse}

@@ -6,7 +6,7 @@ use Rattle.iox2_pubsub.specs.Live.{publisher_key, subscriber_key}
 use Rattle.iox2_pubsub.specs.UpdateCalls.{ready_stays}
 use Rattle.iox2_pubsub.specs.declared.publisher.Publisher.{Publisher}
 use Rattle.iox2_pubsub.specs.declared.subscriber.Subscriber.{Subscriber}
-use Rattle.iox2_pubsub.proofs.StaysBut.{stays-twice}
+use Rattle.iox2_pubsub.proofs.StaysOn.{stays-twice}
 use Rattle.iox2_request_response.specs.Service.{StaysBoth}
 use Rattle.iox2_request_response.specs.declared.service.RequestResponse.{RequestResponse}
 

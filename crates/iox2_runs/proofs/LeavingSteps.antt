@@ -14,8 +14,9 @@ use Rattle.iox2_pubsub.specs.declared.sample_mut.SampleMut.{SampleMut}
 use Rattle.iox2_pubsub.specs.declared.send_outcome.SendOutcome.{SendOutcome}
 use Rattle.iox2_pubsub.specs.declared.send_outcome.SendOutcome.TheVariants.{Delivered as WasDelivered}
 use Rattle.iox2_pubsub.specs.declared.send_outcome.SendOutcome.TheVariants.{Blocked as IsBlocked}
-use Rattle.iox2_pubsub.proofs.StaysBut.{new-since, stays-on, nothing-is-new, both-new, part-new, second-part}
-use Rattle.iox2_pubsub.proofs.StaysBut.{sent-loan-part, sent-copy-part, blocked-new}
+use Rattle.iox2_pubsub.proofs.StaysBut.{nothing-is-new}
+use Rattle.iox2_pubsub.proofs.StaysOn.{new-since, stays-on, both-new, part-new, second-part, sent-loan-part}
+use Rattle.iox2_pubsub.proofs.StaysOn.{sent-copy-part, blocked-new}
 use Rattle.iox2_runs.specs.Leaves.{item_of, AreNewIn, LeavesTable}
 use Rattle.iox2_runs.specs.Placed.{ArePlaced, IsPlacedMade}
 use Rattle.iox2_runs.specs.SendReplies.{made_by_send}

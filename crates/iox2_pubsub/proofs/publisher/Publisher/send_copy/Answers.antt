@@ -23,7 +23,7 @@ use Rattle.iox2_pubsub.proofs.FullReceivers.{copy-full}
 use Rattle.iox2_pubsub.proofs.RefusedCopies.{lent-not-refused}
 use Rattle.iox2_pubsub.proofs.RoomySends.{all-room-since, alone-since}
 use Rattle.iox2_pubsub.proofs.SendsPend.{copy-pends}
-use Rattle.iox2_pubsub.proofs.StaysBut.{copy-stays, no-part, stays-but-whole}
+use Rattle.iox2_pubsub.proofs.StaysOn.{copy-stays, no-part, stays-but-whole}
 use Rattle.iox2_pubsub.proofs.publisher.Publisher.send_copy.Goals as goal
 
 pub returns-in_err-loan-clause-sends : goal.returns-in_err-loan-clause-sends

@@ -2,7 +2,7 @@ use Rattle.std.proofs.Common.{ℕ, None, inl, inr, subst, sym}
 use Rattle.iox2_domain.specs.Boxes.{answers_of}
 use Rattle.iox2_pubsub.specs.Handles.{publisher_id}
 use Rattle.iox2_pubsub.specs.Live.{publisher_port}
-use Rattle.iox2_pubsub.proofs.StaysBut.{stays-on}
+use Rattle.iox2_pubsub.proofs.StaysOn.{stays-on}
 use Rattle.iox2_request_response.proofs.PortChanges.{no-publisher-made, publisher-made}
 use Rattle.iox2_request_response.proofs.PortSteps.{BringsNoneBut, creates-publisher, on-error, refuses-publisher}
 use Rattle.iox2_request_response.proofs.service.RequestResponse.create_client.Goals as goal

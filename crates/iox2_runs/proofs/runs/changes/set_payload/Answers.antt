@@ -1,4 +1,4 @@
-use Rattle.iox2_pubsub.proofs.StaysBut.{stays-but-more}
+use Rattle.iox2_pubsub.proofs.StaysOn.{stays-but-more}
 use Rattle.iox2_runs.proofs.CarriedChanges.{payload_carried, payload_passed}
 use Rattle.iox2_runs.proofs.LiveEntries.{live_written}
 use Rattle.iox2_runs.proofs.TableEntries.{not_written}

@@ -1,4 +1,4 @@
-use Rattle.iox2_pubsub.proofs.StaysBut.{stays-but-more}
+use Rattle.iox2_pubsub.proofs.StaysOn.{stays-but-more}
 use Rattle.iox2_pubsub.specs.Live.{IsNewIn, A_loan, A_blocked_send, Both}
 use Rattle.iox2_runs.proofs.CarriedLoans.{write_carried, write_passed}
 use Rattle.iox2_runs.proofs.LiveEntries.{live_unwritten}

@@ -1,4 +1,4 @@
-use Rattle.iox2_pubsub.proofs.StaysBut.{stays-but-more}
+use Rattle.iox2_pubsub.proofs.StaysOn.{stays-but-more}
 use Rattle.iox2_runs.proofs.CarriedChanges.{cell_carried, cell_passed}
 use Rattle.iox2_runs.proofs.LeavingSteps.{still-placed}
 use Rattle.iox2_runs.proofs.LiveEntries.{live_unwritten, listed, placed_unwritten}

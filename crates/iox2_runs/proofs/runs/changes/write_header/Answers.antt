@@ -1,4 +1,4 @@
-use Rattle.iox2_pubsub.proofs.StaysBut.{stays-but-more}
+use Rattle.iox2_pubsub.proofs.StaysOn.{stays-but-more}
 use Rattle.iox2_pubsub.specs.ChangedLoans.{with_user_header_left}
 use Rattle.iox2_runs.proofs.CarriedChanges.{unwritten_header_carried, written_header_carried, header_passed}
 use Rattle.iox2_runs.proofs.LeavingSteps.{still-placed}

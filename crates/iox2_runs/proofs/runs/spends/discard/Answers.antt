@@ -1,4 +1,5 @@
-use Rattle.iox2_pubsub.proofs.StaysBut.{stays-but-more, nothing-is-new}
+use Rattle.iox2_pubsub.proofs.StaysBut.{nothing-is-new}
+use Rattle.iox2_pubsub.proofs.StaysOn.{stays-but-more}
 use Rattle.iox2_runs.proofs.CarriedDiscards.{discard_passed, discard_unwritten, discard_written}
 use Rattle.iox2_runs.proofs.LiveEntries.{live_unwritten, live_written}
 use Rattle.iox2_runs.proofs.TableEntries.{not_loan}
