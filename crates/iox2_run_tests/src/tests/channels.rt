@@ -2,7 +2,7 @@
 use crate::tests::runs::{CREATE_SUBSCRIBER, create_publisher};
 use crate::tests::steps::{Step, check, publisher_made, sample_of, subscriber_made};
 use iox2_fixtures::{settings, smallest};
-use iox2_machine::{BackpressureStrategy, ServiceConfig};
+use iox2_machine::{BackpressureStrategy, LoanError, ServiceConfig, worst_case_slots};
 use iox2_runs::{Command, NewPublisher, PublisherChannelCall, Reply, SubscriberChannelCall};
 use std::time::Duration;
 
@@ -161,4 +161,35 @@ fn a_send_to_one_connection_may_be_blocked(rt: HostRuntime) {
         (Command::GiveUp { of: 12 }, Reply::Delivered(0)),
     ];
     check(&rt, rt.alloc(), smallest(), &steps);
+}
+
+// In the second of two channels nothing is borrowed. So one slot fewer than the worst case is enough, and
+// the worst case is least for one channel alone.
+#[test]
+fn what_a_further_channel_could_lend_stays_free(rt: HostRuntime) {
+    let config = ServiceConfig {
+        number_of_channels: 2,
+        ..smallest()
+    };
+    assert_eq!(rt; worst_case_slots(&config, 1), Some(5));
+    for (slots, last) in [
+        (4, Reply::Loaned),
+        (3, Reply::LoanRefused(LoanError::OutOfMemory)),
+    ] {
+        let publisher = NewPublisher {
+            override_slots: Some(slots),
+            ..NewPublisher::new(1, BackpressureStrategy::DiscardData)
+        };
+        let steps: [Step; 8] = [
+            (CREATE_SUBSCRIBER, subscriber_made(1)),
+            (Command::CreatePublisher(publisher), publisher_made(2)),
+            (Command::SendCopy { of: 1, value: 5 }, Reply::Delivered(1)),
+            (Command::Receive { of: 0 }, sample_of(2)),
+            (Command::SendCopy { of: 1, value: 6 }, Reply::Delivered(1)),
+            (Command::Loan { of: 1 }, Reply::Loaned),
+            (send_there(5, 1, 0), Reply::Delivered(1)),
+            (Command::Loan { of: 1 }, last),
+        ];
+        check(&rt, rt.alloc(), config, &steps);
+    }
 }
