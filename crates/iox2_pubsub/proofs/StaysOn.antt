@@ -8,6 +8,7 @@ use Rattle.iox2_pubsub.specs.Live.{IsFromOrigin, Item, No_item, A_publisher, A_l
 use Rattle.iox2_pubsub.specs.Live.{A_sent_copy, Both, IsOtherPublisher, IsOtherSubscriber, IsOtherLoan, IsOtherSample}
 use Rattle.iox2_pubsub.specs.Live.{IsUnblocked, IsUnwritten, IsWritten, IsOtherBlocked, StaysBut, Stays, IsNewIn}
 use Rattle.iox2_pubsub.specs.Live.{blocked_key}
+use Rattle.iox2_pubsub.proofs.StaysBut.{new-in, passed-parts, pending-parts}
 use Rattle.iox2_pubsub.specs.Slices.{HasUnwrittenCells, HasValues}
 use Rattle.iox2_pubsub.specs.Sample.{Sample}
 use Rattle.iox2_pubsub.specs.declared.sample_mut.SampleMut.{SampleMut}
