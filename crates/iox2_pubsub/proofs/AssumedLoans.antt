@@ -220,7 +220,8 @@ module _ {T U F G : Type 0} {boxes : DomainBoxes F G} (f g : Fields T U) (sound 
         (record { loans = λ publisher more left. left; numbers = λ more left. left })
 
     pub left-borrows : BorrowsLeftStay kept (keeping boxes g)
-    left-borrows = subst (BorrowsLeftStay kept) (sym left-same) (λ subscriber more left. left)
+    left-borrows = subst (BorrowsLeftStay kept) (sym left-same)
+        (record { all = λ subscriber more left. left; of_each = λ publisher subscriber more left. left })
 
     pub left-leaves : UpToDateStay kept (keeping boxes g)
     left-leaves = subst (UpToDateStay kept) (sym left-same)

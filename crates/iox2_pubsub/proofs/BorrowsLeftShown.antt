@@ -5,8 +5,8 @@ use Rattle.std.proofs.Common.{inl, inr, ⊎_elim}
 use Rattle.std.specs.Prelude.{◌≢◌, IfErr, IsOk, nat_lt}
 use Rattle.std.specs.List.{list_any}
 use Rattle.std.specs.declared.time.Duration.{Duration}
-use Rattle.std.proofs.lemmas.Bool.{true≢false, cases_eq, ne_eqb, ltb-false, or_parts}
-use Rattle.std.proofs.lemmas.List.{length-append}
+use Rattle.std.proofs.lemmas.Bool.{true≢false, cases_eq, ne_eqb, ltb-false, ltb-true}
+use Rattle.std.proofs.lemmas.List.{length-append, length-map}
 use Rattle.iox2_machine.specs.machine.Numbers.{contains, is_nil, without, put_at}
 use Rattle.iox2_machine.specs.machine.Mailbox.{Mailbox, BorrowsFirst, can_receive, has_data, is_borrowed, with_released}
 use Rattle.iox2_machine.specs.machine.Loans.{loan_discarded}
@@ -38,12 +38,15 @@ use Rattle.iox2_laws.proofs.Puts.{at_each, put_at-same, put_at-other}
 use Rattle.iox2_laws.proofs.SubscriberUpdates.{update_subscriber_keeps}
 use Rattle.iox2_laws.proofs.WaitingCounts.{sum_below, sum_same, sum_le, sum_zero, sum_one_less, sum_part}
 use Rattle.iox2_laws.proofs.WaitingReceives.{passes_at}
-use Rattle.iox2_domain.specs.Kept.{Kept}
+use Rattle.iox2_domain.specs.Kept.{Kept, entries_of, state_of}
 use Rattle.iox2_domain.specs.Lending.{LoanCall, loan_memory}
 use Rattle.iox2_domain.specs.Shows.{Shows}
-use Rattle.iox2_pubsub.specs.BorrowsLeft.{borrowed_by, CanBorrow, HasBorrowsLeft, BorrowsLeftStay, HasOneMoreBorrowLeft}
-use Rattle.iox2_pubsub.specs.BorrowsLeft.{TakesOneBorrow}
-use Rattle.iox2_pubsub.specs.Live.{IsUpToDate}
+use Rattle.iox2_machine.specs.machine.Waiting.{waiting_from}
+use Rattle.iox2_pubsub.specs.BorrowsLeft.{borrowed_by, CanBorrow, CanBorrowOf, HasBorrowsLeft, HasBorrowsLeftOf}
+use Rattle.iox2_pubsub.specs.BorrowsLeft.{BorrowsLeftStay, HasOneMoreBorrowLeft, HasOneMoreBorrowLeftOf}
+use Rattle.iox2_pubsub.specs.BorrowsLeft.{OthersBorrowsStay, TakesOneBorrow}
+use Rattle.iox2_pubsub.specs.Live.{IsUpToDate, payloads_from}
+use Rattle.iox2_pubsub.specs.Payloads.{payload_of}
 use Rattle.iox2_pubsub.specs.ReceivedSamples.{OnNoSample, received_result}
 use Rattle.iox2_pubsub.specs.declared.publisher.Publisher.{Publisher}
 use Rattle.iox2_pubsub.specs.Sample.{Sample}
@@ -52,9 +55,11 @@ use Rattle.iox2_pubsub.proofs.BorrowsKept.{BorrowsKept, kept-itself, stays-kept,
 use Rattle.iox2_pubsub.proofs.BorrowsKept.{subscriber-update-kept, publisher-creation-kept, subscriber-creation-kept}
 use Rattle.iox2_pubsub.proofs.BorrowsKept.{send-kept, send-to-kept, retry-kept, give-up-kept, publisher-close-kept}
 use Rattle.iox2_pubsub.proofs.BorrowsKept.{subscriber-close-kept, released-kept, released-ports, shorter-without}
+use Rattle.iox2_pubsub.proofs.BorrowsOfEach.{at-limit, fails-at, not-refused-of, part, receive-borrows-of}
 use Rattle.iox2_pubsub.proofs.KeptReceives.{updated-unfailed}
 use Rattle.iox2_pubsub.proofs.PayloadLists.{length-all_below}
 use Rattle.iox2_pubsub.proofs.UpToDateShown.{up-to-date-in}
+use Rattle.iox2_pubsub.proofs.WaitingShown.{payloads-from-are}
 
 -- a sum goes no further than its parts do
 sum-ends : (f : ℕ → ℕ) (n k : ℕ) → n ≤ k → ((i : ℕ) → n ≤ i → f i ≡ 0) → sum_below f k ≡ sum_below f n
@@ -82,25 +87,8 @@ sum-less f g k (suc n) low one each = elim (cases_eq n k) [
       omega arith
 ]
 
--- a test that fails at each of the list fails at this one
-fails-at : (test : ℕ → Bool) (ns : List ℕ) (n : ℕ) → list_any test ns ≡ false → contains ns n ≡ true → test n ≡ false
-fails-at test [] n none at = absurd (true≢false (sym at))
-fails-at test (m ∷ ns) n none at =
-    ⊎_elim
-    (λ same. ap test (sym same) ∙ (or_parts (test m) (list_any test ns) none).0)
-    (λ later. fails-at test ns n (or_parts (test m) (list_any test ns) none).1 later)
-    (contains_in_cons m n ns at)
-
--- where something waits and can't be received, the limit is reached
-at-limit : (limit : ℕ) (box : Mailbox) → has_data box ≡ true → can_receive limit box ≡ false
-    → limit ≤ length box.borrowed
-at-limit limit box some full = ltb-false _ _ (sym (ap (λ b. b && nat_lt (length box.borrowed) limit) some) ∙ full)
-
 module _ {T U : Type 0} where
-  -- how many messages of p, and how many in all, q has borrowed
-  abbrev part : State T U → (q p : ℕ) → ℕ
-  part s q p = length (s.mailboxes p q).borrowed
-
+  -- how many messages q has borrowed in all
   abbrev count : State T U → (q : ℕ) → ℕ
   count s q = sum_below (part s q) s.next_port
 
@@ -115,6 +103,23 @@ module _ {T U : Type 0} where
     at [] is = ap length is
     at (n ∷ ns) is = absurd
         (unknown ((w.mailboxes p q).known (has_numbers-borrows (s.mailboxes p q) (ap (λ xs. not (is_nil xs)) is))))
+
+  -- what q has borrowed of p is a part of what it has borrowed
+  pub one-of-all : (s : State T U) → IsWellFormed s → (p q : ℕ) → part s q p ≤ length (borrowed_by s q)
+  one-of-all s w p q = by (nat_lt p s.next_port) refl where
+    counted : length (borrowed_by s q) ≡ count s q
+    counted = count-is s q
+
+    by : (b : Bool) → nat_lt p s.next_port ≡ b → part s q p ≤ length (borrowed_by s q)
+    by true e =
+        let all : part s q p ≤ count s q = sum_part (part s q) p s.next_port (ltb-true _ _ e) in
+        let same : length (borrowed_by s q) ≡ count s q = counted in
+        omega (arith, all, same)
+    by false e =
+        let far : s.next_port ≤ p = ltb-false _ _ e in
+        let none : part s q p ≡ 0 =
+        unknown-none s w p q (λ known. let less : p < s.next_port = known.0 in omega (arith, far, less)) in
+        omega (arith, none)
 
   -- as much is borrowed where each has borrowed as much
   pub count-stays : (s s' : State T U) → IsWellFormed s → s.next_port ≤ s'.next_port → (q : ℕ)
@@ -268,14 +273,27 @@ module _ {T U : Type 0} (s : State T U) (w : IsWellFormed s) (p q n : ℕ)
       (λ _. length-without_le n (s.mailboxes p q).borrowed) (λ _. le_refl (part s j p)))
       (λ _. le_refl (part s j i))
 
+  -- nobody has borrowed more of any publisher
+  pub released-none-more : (i j : ℕ) → part (released s p q n) j i ≤ part s j i
+  released-none-more i j = let is = left-of i j in let low = each i j in omega (arith, is, low)
+
+  -- and q one message less of this one
+  pub released-less-of : suc (part (released s p q n) q p) ≤ part s q p
+  released-less-of =
+      let is = left-of p q in
+      let now : part (unborrowed s p q n) q p ≡ length (without n (s.mailboxes p q).borrowed) =
+      ap (λ (box : Mailbox). length box.borrowed) this in
+      let fewer : length (without n (s.mailboxes p q).borrowed) < part s q p =
+      shorter-without n (s.mailboxes p q).borrowed there in
+      omega (arith, is, now, fewer)
+
   -- nobody has borrowed more
   pub released-no-more : (j : ℕ) → count (released s p q n) j ≤ count s j
   released-no-more j =
       let ports : count (released s p q n) j ≡ sum_below (part (released s p q n) j) s.next_port =
       ap (sum_below (part (released s p q n) j)) (released-ports s p q n) in
       let less : sum_below (part (released s p q n) j) s.next_port ≤ count s j =
-      sum_le (part (released s p q n) j) (part s j) s.next_port
-      (λ i. let is = left-of i j in let low = each i j in omega (arith, is, low)) in
+      sum_le (part (released s p q n) j) (part s j) s.next_port (λ i. released-none-more i j) in
       omega (arith, ports, less)
 
   -- and q one message less
@@ -284,14 +302,8 @@ module _ {T U : Type 0} (s : State T U) (w : IsWellFormed s) (p q n : ℕ)
       let ports : count (released s p q n) q ≡ sum_below (part (released s p q n) q) s.next_port =
       ap (sum_below (part (released s p q n) q)) (released-ports s p q n) in
       let less : suc (sum_below (part (released s p q n) q) s.next_port) ≤ count s q =
-      sum-less (part (released s p q n) q) (part s q) p s.next_port known
-      (let is = left-of p q in
-      let now : part (unborrowed s p q n) q p ≡ length (without n (s.mailboxes p q).borrowed) =
-      ap (λ (box : Mailbox). length box.borrowed) this in
-      let fewer : length (without n (s.mailboxes p q).borrowed) < part s q p =
-      shorter-without n (s.mailboxes p q).borrowed there in
-      omega (arith, is, now, fewer))
-      (λ i. let is = left-of i q in let low = each i q in omega (arith, is, low)) in
+      sum-less (part (released s p q n) q) (part s q) p s.next_port known released-less-of
+      (λ i. released-none-more i q) in
       omega (arith, ports, less)
 
 -- ---- seen from outside
@@ -305,6 +317,15 @@ module _ {T U F G : Type 0} (kept : Kept T U F G) (m : Messages T U) (s : State 
   pub borrows-out : CanBorrow s subscriber.id n → HasBorrowsLeft kept subscriber n
   unfolding HasBorrowsLeft
   borrows-out can = subst (λ (t : State T U). CanBorrow t subscriber.id n) shown.state can
+
+  module _ (p : ℕ) where
+    borrows-of-in : HasBorrowsLeftOf kept p subscriber n → CanBorrowOf s p subscriber.id n
+    unfolding HasBorrowsLeftOf
+    borrows-of-in has = subst (λ (t : State T U). CanBorrowOf t p subscriber.id n) (sym shown.state) has
+
+    borrows-of-out : CanBorrowOf s p subscriber.id n → HasBorrowsLeftOf kept p subscriber n
+    unfolding HasBorrowsLeftOf
+    borrows-of-out can = subst (λ (t : State T U). CanBorrowOf t p subscriber.id n) shown.state can
 
 module _ {T U F G : Type 0} (old new : Kept T U F G) (m m' : Messages T U) (s s' : State T U) (shown : Shows old m s)
     (shown' : Shows new m' s') where
@@ -321,6 +342,24 @@ module _ {T U F G : Type 0} (old new : Kept T U F G) (m m' : Messages T U) (s s'
       let now : length (borrowed_by s' subscriber.id) ≡ count s' subscriber.id = count-is s' subscriber.id in
       borrows-out new m' s' shown' subscriber n (omega (arith, can, limit, before, now, least))
 
+  fewer-of : (p : ℕ) (subscriber : Subscriber) (more n : ℕ) → s'.config ≡ s.config
+      → part s' subscriber.id p ≤ part s subscriber.id p + more → HasBorrowsLeftOf old p subscriber (n + more)
+      → HasBorrowsLeftOf new p subscriber n
+  fewer-of p subscriber more n config least has =
+      let can : part s subscriber.id p + (n + more) ≤ (s.config).subscriber_max_borrowed_samples =
+      borrows-of-in old m s shown subscriber (n + more) p has in
+      let limit : (s'.config).subscriber_max_borrowed_samples ≡ (s.config).subscriber_max_borrowed_samples =
+      ap (λ (c : ServiceConfig). c.subscriber_max_borrowed_samples) config in
+      borrows-of-out new m' s' shown' subscriber n p (omega (arith, can, limit, least))
+
+  no-fewer-of : (p : ℕ) (subscriber : Subscriber) (n : ℕ) → s'.config ≡ s.config
+      → part s' subscriber.id p ≤ part s subscriber.id p → HasBorrowsLeftOf old p subscriber n
+      → HasBorrowsLeftOf new p subscriber n
+  no-fewer-of p subscriber n config least has =
+      let plus : n ≡ n + 0 = omega arith in
+      fewer-of p subscriber 0 n config (omega (arith, least))
+      (subst (λ k. HasBorrowsLeftOf old p subscriber k) plus has)
+
   same-left : (subscriber : Subscriber) (n : ℕ) → s'.config ≡ s.config → count s' subscriber.id ≡ count s subscriber.id
       → HasBorrowsLeft old subscriber n → HasBorrowsLeft new subscriber n
   same-left subscriber n config same has =
@@ -329,8 +368,13 @@ module _ {T U F G : Type 0} (old new : Kept T U F G) (m m' : Messages T U) (s s'
 
   -- a call after which the same is borrowed
   pub borrows-stay : BorrowsKept s s' → BorrowsLeftStay old new
-  borrows-stay kept =
-      λ subscriber n has. same-left subscriber n kept.config (kept-count s s' shown.well_formed kept subscriber.id) has
+  borrows-stay kept = record {
+    all = λ subscriber n has.
+        same-left subscriber n kept.config (kept-count s s' shown.well_formed kept subscriber.id) has;
+    of_each = λ p subscriber n has.
+        let same : part s' subscriber.id p ≡ part s subscriber.id p = ap length (kept.borrowed p subscriber.id) in
+        no-fewer-of p subscriber n kept.config (omega (arith, same)) has;
+  }
 
   pub update-publisher-borrows : (environment : Environment) (p : ℕ) (failure : Option ConnectionFailure)
       → UpdatePublisher environment s p s' failure → BorrowsLeftStay old new
@@ -367,6 +411,24 @@ module _ {T U F G : Type 0} (old new : Kept T U F G) (m m' : Messages T U) (s s'
       (kept.config ∙ ap (λ (t : State T U). t.config) shown.state) in
       borrows-out new m' s' shown' subscriber (old.config).subscriber_max_borrowed_samples
       (omega (arith, none, now, limit))
+
+  -- nothing of a publisher is borrowed that is made
+  pub created-unborrowed : (environment : Environment) (given : PublisherSettings)
+      → CreatePublisher environment s given s' None → (publisher : ℕ) → publisher ≡ s.next_port
+      → (subscriber : Subscriber)
+      → HasBorrowsLeftOf new publisher subscriber (old.config).subscriber_max_borrowed_samples
+  created-unborrowed environment given h publisher its subscriber =
+      let kept : BorrowsKept s s' = publisher-creation-kept environment s given s' None h in
+      let same : part s' subscriber.id publisher ≡ part s subscriber.id publisher =
+      ap length (kept.borrowed publisher subscriber.id) in
+      let none : part s subscriber.id publisher ≡ 0 =
+      unknown-none s shown.well_formed publisher subscriber.id
+      (λ known. let low : publisher < s.next_port = known.0 in omega (arith, low, its)) in
+      let limit : (s'.config).subscriber_max_borrowed_samples ≡ (old.config).subscriber_max_borrowed_samples =
+      ap (λ (c : ServiceConfig). c.subscriber_max_borrowed_samples)
+      (kept.config ∙ ap (λ (t : State T U). t.config) shown.state) in
+      borrows-of-out new m' s' shown' subscriber (old.config).subscriber_max_borrowed_samples publisher
+      (omega (arith, same, none, limit))
 
   -- a call that changes no mailbox
   pub unchanged-borrows : s'.config ≡ s.config → s'.next_port ≡ s.next_port → s'.mailboxes ≡ s.mailboxes
@@ -418,14 +480,36 @@ module _ {T U F G : Type 0} (old new : Kept T U F G) (m m' : Messages T U) (s s'
     config-stays = ap (λ (t : State T U). t.config) is ∙ (released-kept s p q n).config
 
     pub release-borrows : BorrowsLeftStay old new
-    release-borrows = λ subscriber more has.
-        let plus : more ≡ more + 0 = omega arith in
-        let same : count s' subscriber.id ≡ count (released s p q n) subscriber.id =
-        ap (λ (t : State T U). count t subscriber.id) is in
-        let least : count (released s p q n) subscriber.id ≤ count s subscriber.id =
-        released-no-more s shown.well_formed p q n there subscriber.id in
-        fewer subscriber 0 more config-stays (omega (arith, same, least))
-        (subst (λ k. HasBorrowsLeft old subscriber k) plus has)
+    release-borrows = record {
+      all = λ subscriber more has.
+          let plus : more ≡ more + 0 = omega arith in
+          let same : count s' subscriber.id ≡ count (released s p q n) subscriber.id =
+          ap (λ (t : State T U). count t subscriber.id) is in
+          let least : count (released s p q n) subscriber.id ≤ count s subscriber.id =
+          released-no-more s shown.well_formed p q n there subscriber.id in
+          fewer subscriber 0 more config-stays (omega (arith, same, least))
+          (subst (λ k. HasBorrowsLeft old subscriber k) plus has);
+      of_each = λ i subscriber more has.
+          let same : part s' subscriber.id i ≡ part (released s p q n) subscriber.id i =
+          ap (λ (t : State T U). part t subscriber.id i) is in
+          let least : part (released s p q n) subscriber.id i ≤ part s subscriber.id i =
+          released-none-more s shown.well_formed p q n there i subscriber.id in
+          no-fewer-of i subscriber more config-stays (omega (arith, same, least)) has;
+    }
+
+    -- of its publisher one more is left
+    pub release-gives-of : HasOneMoreBorrowLeftOf p q old new
+    release-gives-of = λ subscriber more its has.
+        let can : part s subscriber.id p + more ≤ (s.config).subscriber_max_borrowed_samples =
+        borrows-of-in old m s shown subscriber more p has in
+        let limit : (s'.config).subscriber_max_borrowed_samples ≡ (s.config).subscriber_max_borrowed_samples =
+        ap (λ (c : ServiceConfig). c.subscriber_max_borrowed_samples) config-stays in
+        let before : part s subscriber.id p ≡ part s q p = ap (λ (j : ℕ). part s j p) its in
+        let now : part s' subscriber.id p ≡ part (released s p q n) q p =
+        ap (λ (t : State T U). part t subscriber.id p) is ∙ ap (λ (j : ℕ). part (released s p q n) j p) its in
+        let least : suc (part (released s p q n) q p) ≤ part s q p =
+        released-less-of s shown.well_formed p q n there in
+        borrows-of-out new m' s' shown' subscriber (more + 1) p (omega (arith, can, limit, before, now, least))
 
     pub release-gives : HasOneMoreBorrowLeft q old new
     release-gives = λ subscriber more its has.
@@ -446,11 +530,26 @@ module _ {T U F G : Type 0} (old new : Kept T U F G) (m m' : Messages T U) (s s'
         → TakesOneBorrow receiver old new
     receive-takes result h =
         let takes = receive-borrows environment s shown.well_formed receiver.id s' result h in
+        let each = receive-borrows-of environment s receiver.id s' result h in
         record {
           own = λ n has. fewer receiver 1 n takes.config
               (let more : count s' receiver.id ≤ suc (count s receiver.id) = takes.own in omega (arith, more)) has;
           others = λ other n away has. same-left other n takes.config (takes.others other.id away) has;
+          own_of_each = λ p n has. fewer-of p receiver 1 n takes.config
+              (let more : part s' receiver.id p ≤ suc (part s receiver.id p) = each.own p in omega (arith, more)) has;
+          others_of_each = λ p other n away has.
+              let same : part s' other.id p ≡ part s other.id p = each.others p other.id away in
+              no-fewer-of p other n takes.config (omega (arith, same)) has;
         }
+
+    -- and none of others than its publisher
+    pub receive-leaves-of : (origin n : ℕ) → Receive environment s receiver.id s' (Got_sample origin n)
+        → OthersBorrowsStay origin receiver old new
+    receive-leaves-of origin n h = λ other more away has.
+        let takes = receive-borrows environment s shown.well_formed receiver.id s' (Got_sample origin n) h in
+        let each = receive-borrows-of environment s receiver.id s' (Got_sample origin n) h in
+        let same : part s' receiver.id other ≡ part s receiver.id other = each.away origin n refl other away in
+        no-fewer-of other receiver more takes.config (omega (arith, same)) has
 
     -- leaves what was borrowed where it gives nothing
     pub receive-borrows-none : (result : Result (Option Sample) ReceiveError)
@@ -477,3 +576,17 @@ module _ {T U F G : Type 0} (old new : Kept T U F G) (m m' : Messages T U) (s s'
         updated-unfailed environment s receiver.id (up-to-date-in old m s shown receiver updated) s' e h in
         absurd (not-exceeded environment s shown.well_formed receiver.id n
         (borrows-in old m s shown receiver (n + 1) has) s' e h exceeds)
+
+    -- nor where some are left of a publisher of which a message waits
+    pub receive-granted-of : (publisher n : ℕ) → IsUpToDate old receiver
+        → HasBorrowsLeftOf old publisher receiver (n + 1) → 0 < length (payloads_from old publisher receiver)
+        → (result : Result (Option Sample) ReceiveError) → Receive environment s receiver.id s' (received_result result)
+        → IsOk result
+    receive-granted-of publisher n updated has some (Ok sample) h = refl
+    receive-granted-of publisher n updated has some (Err e) h =
+        let waits : length (payloads_from old publisher receiver) ≡ length (waiting_from s publisher receiver.id) =
+        ap length (payloads-from-are old publisher receiver)
+        ∙ length-map (waiting_from (state_of old) publisher receiver.id) (payload_of (entries_of old))
+        ∙ ap (λ (t : State T U). length (waiting_from t publisher receiver.id)) (sym shown.state) in
+        absurd (not-refused-of environment s receiver.id publisher n (up-to-date-in old m s shown receiver updated)
+        (borrows-of-in old m s shown receiver (n + 1) publisher has) (omega (arith, some, waits)) s' e h)

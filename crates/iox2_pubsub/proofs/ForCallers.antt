@@ -21,7 +21,7 @@ use Rattle.iox2_domain.specs.Shows.{Shows}
 use Rattle.iox2_pubsub.specs.Live.{A_blocked_send, AllFrom, Both, HasItsBuffer, HasPassed, IsBlockedSend, IsConsistent}
 use Rattle.iox2_pubsub.specs.Live.{IsNewIn, IsPending, IsServed, Item, KeepsAll, No_item, Stays, StaysBut, OthersSend}
 use Rattle.iox2_pubsub.specs.Live.{UpToDateStay, WaitingStays, WaitsAsBefore, payloads, payloads_from, waiting}
-use Rattle.iox2_pubsub.specs.BorrowsLeft.{BorrowsLeftStay, HasBorrowsLeft, borrowed_by}
+use Rattle.iox2_pubsub.specs.BorrowsLeft.{BorrowsLeftStay, HasBorrowsLeft, HasBorrowsLeftOf, borrowed_by}
 use Rattle.iox2_pubsub.specs.Leaves.{Leaves}
 use Rattle.iox2_pubsub.specs.LoansLeft.{HasLoansLeft, HasNumbersLeft, LoansLeftStay}
 use Rattle.iox2_pubsub.specs.NewDomains.{IsNewDomain}
@@ -34,6 +34,7 @@ use Rattle.iox2_pubsub.specs.declared.blocked_send.BlockedSend.{BlockedSend}
 use Rattle.iox2_pubsub.specs.declared.publisher.Publisher.{Publisher}
 use Rattle.iox2_pubsub.specs.declared.send_outcome.SendOutcome.{SendOutcome}
 use Rattle.iox2_pubsub.specs.declared.subscriber.Subscriber.{Subscriber}
+use Rattle.iox2_pubsub.proofs.BorrowsLeftShown.{one-of-all}
 use Rattle.iox2_pubsub.proofs.LiveParts.{buffer-parts}
 use Rattle.iox2_pubsub.proofs.PublisherWaits.{only-from, part-of, served-joins}
 use Rattle.iox2_pubsub.proofs.ShareSums.{shares-part}
@@ -235,6 +236,26 @@ module _ {T U F G : Type 0} (domain : Kept T U F G) where
       let most : length (borrowed_by (state_of domain) subscriber.id) + more
       ≤ ((state_of domain).config).subscriber_max_borrowed_samples = has in
       omega (arith, most, less)
+
+  pub borrows_of_for_fewer : (publisher : ℕ) (subscriber : Subscriber) (more fewer : ℕ) → fewer ≤ more
+      → HasBorrowsLeftOf domain publisher subscriber more → HasBorrowsLeftOf domain publisher subscriber fewer
+  unfolding HasBorrowsLeftOf
+  borrows_of_for_fewer publisher subscriber more fewer less has =
+      let most : length ((state_of domain).mailboxes publisher subscriber.id).borrowed + more
+      ≤ ((state_of domain).config).subscriber_max_borrowed_samples = has in
+      omega (arith, most, less)
+
+  -- who has borrows left in all has as many left of each publisher
+  pub borrows_of_each : IsConsistent domain → (publisher : ℕ) (subscriber : Subscriber) (n : ℕ)
+      → HasBorrowsLeft domain subscriber n → HasBorrowsLeftOf domain publisher subscriber n
+  unfolding HasBorrowsLeft HasBorrowsLeftOf
+  borrows_of_each consistent publisher subscriber n has =
+      let most : length (borrowed_by (state_of domain) subscriber.id) + n
+      ≤ ((state_of domain).config).subscriber_max_borrowed_samples = has in
+      let part : length ((state_of domain).mailboxes publisher subscriber.id).borrowed ≤ length
+      (borrowed_by (state_of domain) subscriber.id) =
+      one-of-all (state_of domain) (well domain consistent) publisher subscriber.id in
+      omega (arith, most, part)
 
   pub loans_for_fewer : (publisher : Publisher) (more fewer : ℕ) → fewer ≤ more → HasLoansLeft domain publisher more
       → HasLoansLeft domain publisher fewer
@@ -482,7 +503,11 @@ module _ {T U F G : Type 0} (start old new : Kept T U F G) where
       }
 
   pub borrows_left_twice : BorrowsLeftStay start old → BorrowsLeftStay old new → BorrowsLeftStay start new
-  borrows_left_twice before next = λ subscriber n left. next subscriber n (before subscriber n left)
+  borrows_left_twice before next = record {
+    all = λ subscriber n left. next.all subscriber n (before.all subscriber n left);
+    of_each = λ publisher subscriber n left.
+        next.of_each publisher subscriber n (before.of_each publisher subscriber n left);
+  }
 
   pub leaves_twice : Leaves start old → Leaves old new → Leaves start new
   leaves_twice before next = record {

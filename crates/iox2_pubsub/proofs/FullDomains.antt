@@ -18,7 +18,7 @@ abbrev pub ids_of : List Handle → List ℕ
 ids_of [] = []
 ids_of (subscriber ∷ others) = subscriber.id ∷ ids_of others
 
-as-many : (subscribers : List Handle) → length (ids_of subscribers) ≡ length subscribers
+pub as-many : (subscribers : List Handle) → length (ids_of subscribers) ≡ length subscribers
 as-many [] = refl
 as-many (subscriber ∷ others) = let rest : length (ids_of others) ≡ length others = as-many others in
     omega (arith, rest)

@@ -47,7 +47,7 @@ module _ {T U : Type 0} (environment : Environment) (s : State T U) (q : ℕ) wh
       (t : State T U) (failure : Option ConnectionFailure) → UpdateSubscriber environment s q t failure → SameWaits s t
 
   -- there is nothing to update
-  unchanged : IsUpdated s q → (s' : State T U) (failure : Option ConnectionFailure)
+  pub unchanged : IsUpdated s q → (s' : State T U) (failure : Option ConnectionFailure)
       → UpdateSubscriber environment s q s' failure → s' ≡ s
   unchanged is s' failure h =
       by_option (s' ≡ s) (s.subscribers q) _ _ h (λ _ v. absurd v) (λ y present h.
@@ -90,7 +90,7 @@ module _ {T U : Type 0} (environment : Environment) (s : State T U) (q : ℕ) wh
       (λ _ _ k. subst (SameWaits s) (sym k.0) (keeps h.0 h.1 h.2))
 
   -- where there is nothing to update, a receive fails at the limit of borrows alone
-  no-failure : IsUpdated s q → (t : State T U) (failure : Option ConnectionFailure)
+  pub no-failure : IsUpdated s q → (t : State T U) (failure : Option ConnectionFailure)
       → UpdateSubscriber environment s q t failure → failure ≡ None
   no-failure is t failure h =
       by_option (failure ≡ None) (s.subscribers q) _ _ h (λ _ v. absurd v) (λ y present h.

@@ -87,6 +87,8 @@ pub mod ClosesWait
 pub mod DepartedShown
 pub mod LoansLeftShown
 mod BorrowsKept
+pub mod BorrowsOfEach
+pub mod ConnectionPlaces
 pub mod FullDomains
 pub mod DeliveryCounts
 pub mod SendCounts

@@ -224,9 +224,13 @@ module _ {T U F G : Type 0} {boxes : DomainBoxes F G} (is_default : U → Type 0
           }
 
       filled-lends-none : BorrowsLeftStay kept (keeping boxes new)
-      filled-lends-none subscriber n left =
-          filled-borrows mid new granted-sound (keeping boxes mid) refl loan.number values writes subscriber n
-          (lent.borrows_left subscriber n left)
+      filled-lends-none =
+          let later : BorrowsLeftStay (keeping boxes mid) (keeping boxes new) =
+          filled-borrows mid new granted-sound (keeping boxes mid) refl loan.number values writes in record {
+            all = λ subscriber n left. later.all subscriber n (lent.borrows_left.all subscriber n left);
+            of_each = λ p subscriber n left.
+                later.of_each p subscriber n (lent.borrows_left.of_each p subscriber n left);
+          }
 
       -- its handle
       module _ (handle : SampleMut) (same : handle ≡ record { service_id = publisher.service_id; loan = loan }) where

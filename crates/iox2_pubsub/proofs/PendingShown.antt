@@ -16,7 +16,6 @@ use Rattle.iox2_machine.specs.machine.State.{State, Messages}
 use Rattle.iox2_machine.specs.machine.Waiting.{waiting_from}
 use Rattle.iox2_machine.specs.declared.errors.SendError.{SendError}
 use Rattle.iox2_machine.specs.declared.key.Key.{Key}
-use Rattle.iox2_machine.specs.declared.service_config.ServiceConfig.{ServiceConfig}
 use Rattle.iox2_laws.proofs.SendsRemain.{give_up_remains, retry_remains}
 use Rattle.iox2_laws.proofs.WaitingCounts.{same_from}
 use Rattle.iox2_domain.specs.Kept.{Kept, state_of, entries_of}
@@ -36,7 +35,7 @@ use Rattle.iox2_pubsub.proofs.ConnectedCounts.{TouchesOnly, goes-on-touches, oth
 use Rattle.iox2_pubsub.proofs.ConnectionsShown.{served}
 use Rattle.iox2_pubsub.proofs.ConnectionsStay.{ConnectsStay, give-up-connections, retry-connections}
 use Rattle.iox2_pubsub.proofs.PendingDeliveries.{Comes, IsSplit, Leaves, served_box}
-use Rattle.iox2_pubsub.proofs.PendingSteps.{give-up-comes, give-up-leaves-past, give-up-skips, one-alone, retry-comes}
+use Rattle.iox2_pubsub.proofs.PendingSteps.{give-up-comes, give-up-leaves-past, give-up-skips, retry-comes}
 use Rattle.iox2_pubsub.proofs.PendingSteps.{retry-leaves-past}
 use Rattle.iox2_pubsub.proofs.PublisherWaits.{send-joins}
 use Rattle.iox2_pubsub.proofs.ReceiversAhead.{where-blocked}
@@ -150,9 +149,6 @@ module _ {T U F G : Type 0} (old new : Kept T U F G) (m m' : Messages T U) (s s'
                 (subst (λ (k : ℕ). PassesBy (state_of new) p k subscriber.id) number
                 (subst (λ (t : State T U). PassesBy t p n subscriber.id) shown'.state it.1)),
           ),
-          λ one. one-alone s' shown'.well_formed p n subscriber.id
-              (ap (λ (c : ServiceConfig). c.max_subscribers) (settings ∙ ap (λ (t : State T U). t.config) shown.state)
-              ∙ one) (connects p subscriber.id c) it.1,
         ))
         (λ it.
         let goes : GoesTo (state_of new) p n subscriber.id =

@@ -14,12 +14,13 @@ use Rattle.iox2_machine.specs.machine.Records.{BlockedSend, Environment, Loan, P
 use Rattle.iox2_machine.specs.machine.Sends.{Send, Publish, Retry, GiveUp, DeliverAndConclude, SendResult, Blocked_send}
 use Rattle.iox2_machine.specs.machine.Sends.{Send_error, published, more_retries}
 use Rattle.iox2_machine.specs.machine.State.{State, channel_buffer, is_blocked, receiving_buffer}
-use Rattle.iox2_machine.specs.machine.WellFormed.{LeadsTo, IsWellFormed}
+use Rattle.iox2_machine.specs.machine.WellFormed.{LeadsTo, IsWellFormed, PublisherIsWellFormed}
 use Rattle.iox2_machine.specs.declared.errors.ConnectionFailure.{ConnectionFailure}
 use Rattle.iox2_laws.specs.Sendings.{sending}
 use Rattle.iox2_laws.proofs.Cases.{by_option, by_bool}
-use Rattle.iox2_laws.proofs.NumberLemmas.{contains_first, contains_in_cons, contains_later}
-use Rattle.iox2_laws.proofs.PlaceLemmas.{IsOnce-occupants, contains-occupants, leads_to, occupant-drop, once-behind}
+use Rattle.iox2_laws.proofs.NumberLemmas.{contains_in_cons, contains_later, length_le}
+use Rattle.iox2_laws.proofs.PlaceLemmas.{IsOnce-occupants, contains-occupants, leads_to, length-occupants_le}
+use Rattle.iox2_laws.proofs.PlaceLemmas.{occupant-drop, once-behind}
 use Rattle.iox2_laws.proofs.PublisherUpdates.{update_publisher_keeps}
 use Rattle.iox2_laws.proofs.SendLaws.{injective_drop, injective_take, occupant-take}
 use Rattle.iox2_laws.proofs.UpToDate.{update_publisher_subscribers}
@@ -254,35 +255,58 @@ module _ {T U : Type 0} (environment : Environment) (s : State T U) (p n q : ℕ
       goes-on-leaves environment s p n 0 no_time (b.place + 1) (drop 1 b.ends) b.count b.has_failed s' result
       (given-up b passes.message passes.channel h) q (none-behind b.ends q passes.past)
 
--- ---- where there is but one subscriber
+-- ---- where as many are connected as there may be
 
-ends-one : (ends : List (Option ℕ)) (q place : ℕ) → length ends ≤ 1 → occupant ends place ≡ Some q → ends ≡ Some q ∷ []
-ends-one [] q place short at = absurd (none-some q at)
-ends-one (e ∷ []) q zero short at = ap (λ (o : Option ℕ). o ∷ []) at
-ends-one (e ∷ []) q (suc place) short at = absurd (none-some q at)
-ends-one (e ∷ f ∷ rest) q place short at = absurd (omega arith)
-
-taken-one : (count place q : ℕ) → 0 < length (take count (drop place (Some q ∷ [])))
-    → contains (occupants (take count (drop place (Some q ∷ [])))) q ≡ true
-taken-one zero place q some = absurd (omega (arith, some))
-taken-one (suc k) zero q some = contains_first q (occupants (take k []))
-taken-one (suc k) (suc zero) q some = absurd (omega (arith, some))
-taken-one (suc k) (suc (suc j)) q some = absurd (omega (arith, some))
-
--- no send waits behind it
-pub one-alone : {T U : Type 0} (s : State T U) → IsWellFormed s → (p n q : ℕ) → (s.config).max_subscribers ≡ 1
-    → Connects s p q → PassesBy s p n q → ⊥
-one-alone {T} {U} s w p n q one c passes =
+-- who stands at the place that a blocked send waits at is before it
+place-ahead : {T U : Type 0} (s : State T U) → IsWellFormed s → (p n q : ℕ) (passes : PassesBy s p n q) (r : ℕ)
+    → occupant ((passes.publisher).ends) ((passes.blocked).place) ≡ Some r
+    → contains (occupants (passes.blocked).ends) r ≡ true
+place-ahead {T} {U} s w p n q passes r at =
     let x = passes.publisher in
     let b = passes.blocked in
-    let same : c.publisher ≡ x = same_Some c.publisher x (sym c.stands ∙ passes.stands) in
-    let leads : LeadsTo x.ends q = subst (λ (z : Publisher). LeadsTo z.ends q) same c.sends in
-    let short : length x.ends ≤ 1 =
-    subst (λ (most : ℕ). length x.ends ≤ most) one (w.publishers p x passes.stands).ends_bound in
     let from = ((w.publishers p x passes.stands).blocked b passes.waits).ends in
-    let is : b.ends ≡ take from.0 (drop b.place (Some q ∷ [])) = from.1
-    ∙ ap (λ (ends : List (Option ℕ)). take from.0 (drop b.place ends)) (ends-one x.ends q leads.0 short leads.1) in
-    true≢false (
-    sym (ap (λ (ends : List (Option ℕ)). contains (occupants ends) q) is
-    ∙ taken-one from.0 b.place q (subst (λ (ends : List (Option ℕ)). 0 < length ends) is passes.some))
-    ∙ passes.past)
+    let place : b.place + 0 ≡ b.place = omega arith in
+    let some : 0 < length (take from.0 (drop b.place x.ends)) =
+    subst (λ (ends : List (Option ℕ)). 0 < length ends) from.1 passes.some in
+    contains-occupants b.ends r (
+      0,
+      ap (λ (ends : List (Option ℕ)). occupant ends 0) from.1 ∙ first-taken from.0 (drop b.place x.ends) some
+          ∙ occupant-drop b.place x.ends 0 ∙ ap (occupant x.ends) place ∙ at,
+    )
+
+-- no send waits behind all of them
+pub none-behind-all : {T U : Type 0} (s : State T U) → IsWellFormed s → (p n : ℕ) (ids : List ℕ) → IsOnce ids
+    → (s.config).max_subscribers ≤ length ids → ((q : ℕ) → contains ids q ≡ true → Connects s p q)
+    → ((q : ℕ) → contains ids q ≡ true → PassesBy s p n q) → (q : ℕ) → PassesBy s p n q → ⊥
+none-behind-all {T} {U} s w p n ids once full connects passed q passes =
+    let x = passes.publisher in
+    let port = w.publishers p x passes.stands in
+    let waits = (port.blocked passes.blocked passes.waits).waits in
+    let leads : (i : ℕ) → contains ids i ≡ true → contains (occupants x.ends) i ≡ true =
+    λ i at. let c = connects i at in
+    contains-occupants x.ends i
+    (subst (λ (z : Publisher). LeadsTo z.ends i) (same_Some c.publisher x (sym c.stands ∙ passes.stands)) c.sends) in
+    by port waits leads (contains ids waits.0) refl
+  where
+    x : Publisher
+    x = passes.publisher
+
+    by : (port : PublisherIsWellFormed s p x) (waits : (r : ℕ) × (occupant x.ends (passes.blocked).place ≡ Some r))
+        → ((i : ℕ) → contains ids i ≡ true → contains (occupants x.ends) i ≡ true)
+        → (b : Bool) → contains ids waits.0 ≡ b → ⊥
+    by port waits leads true at =
+        let other = passed waits.0 at in
+        let same : passes.publisher ≡ other.publisher =
+        same_Some passes.publisher other.publisher (sym passes.stands ∙ other.stands) in
+        let one : passes.blocked ≡ other.blocked = same_Some passes.blocked other.blocked
+        (sym passes.waits ∙ ap (λ (z : Publisher). z.blocked) same ∙ other.waits) in
+        true≢false (sym (place-ahead s w p n q passes waits.0 waits.1)
+        ∙ ap (λ (v : BlockedSend). contains (occupants v.ends) waits.0) one ∙ other.past)
+    by port waits leads false none =
+        let more : length (waits.0 ∷ ids) ≤ length (occupants x.ends) =
+        length_le (waits.0 ∷ ids) (occupants x.ends) (none, once) (IsOnce-occupants x.ends port.ends_apart) (λ i at.
+        ⊎_elim (λ same. contains-occupants x.ends i ((passes.blocked).place, waits.1 ∙ ap (λ (k : ℕ). Some k) same))
+        (λ later. leads i later) (contains_in_cons waits.0 i ids at)) in
+        let few : length (occupants x.ends) ≤ length x.ends = length-occupants_le x.ends in
+        let bound : length x.ends ≤ (s.config).max_subscribers = port.ends_bound in
+        omega (arith, more, few, bound, full)

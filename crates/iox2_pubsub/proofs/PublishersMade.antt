@@ -15,6 +15,7 @@ use Rattle.iox2_domain.specs.Ports.{PublisherFields}
 use Rattle.iox2_domain.specs.Reaches.{Reaches}
 use Rattle.iox2_domain.specs.Shows.{Shows}
 use Rattle.iox2_domain.specs.declared.boxes.PortBox.{PortBox}
+use Rattle.iox2_pubsub.specs.BorrowsLeft.{HasBorrowsLeftOf}
 use Rattle.iox2_pubsub.specs.Handlers.{may_wait}
 use Rattle.iox2_pubsub.specs.Live.{IsConnected, IsNewIn, IsReadyPublisher, IsSubscriberKey, NeverFails, NeverWaits}
 use Rattle.iox2_pubsub.specs.Live.{NoneRefused, WaitingStays, publisher_key, publisher_port, subscriber_key}
@@ -27,7 +28,7 @@ use Rattle.iox2_pubsub.specs.declared.subscriber.Subscriber.{Subscriber}
 use Rattle.iox2_pubsub.proofs.CallsStay.{always-shown, apart-from-next, publisher-creation-stays, publisher-is-new}
 use Rattle.iox2_pubsub.proofs.ConnectionsShown.{made-connections, made-connects}
 use Rattle.iox2_pubsub.proofs.DepartedShown.{publisher-creation-room}
-use Rattle.iox2_pubsub.proofs.BorrowsLeftShown.{publisher-creation-borrows}
+use Rattle.iox2_pubsub.proofs.BorrowsLeftShown.{created-unborrowed, publisher-creation-borrows}
 use Rattle.iox2_pubsub.proofs.LoansLeftShown.{created-grows, created-left, publisher-creation-left}
 use Rattle.iox2_pubsub.proofs.NextPorts.{next-sender-takes}
 use Rattle.iox2_pubsub.proofs.PublishersShown.{created-never-fails, created-never-waits, created-overflows}
@@ -55,6 +56,8 @@ pub record Made {T U F G : Type 0} (environment : Environment) (given : Publishe
       → publisher.initial_max_slice_len ≡ given.initial_max_slice_len
       → HasLoansLeft new publisher given.max_loaned_samples
   pub grows : GrowsBy new publisher given.allocation_strategy
+  pub borrows : (subscriber : Subscriber)
+      → HasBorrowsLeftOf new publisher.id subscriber (old.config).subscriber_max_borrowed_samples
 
 module _ {T U F G : Type 0} {boxes : DomainBoxes F G} {publishers : List (PortBox F G)} (f g : Fields T U)
     (sound : IsDomain f) (kept : Kept T U F G) (view : keeping boxes f ≡ kept)
@@ -106,6 +109,7 @@ made-unasked given asked box degrading port old after made = record {
   strategy = made.strategy;
   longest = made.longest;
   is_new = made.is_new;
+  borrows = made.borrows;
   connects = made.connects;
 }
 
@@ -151,4 +155,5 @@ module _ {T U F G : Type 0} {boxes : DomainBoxes F G} (f g : Fields T U) (sound 
             (subst (λ (s : State T U). worst_case s.config given.max_loaned_samples ≤ slots_for s.config given)
             (sym (it.2).state) enough) publisher its long (step.1).1;
         grows = created-grows kept new it.0 it.0 it.1 t it.2 step.0 environment given publisher its (step.1).1;
+        borrows = created-unborrowed kept new it.0 it.0 it.1 t it.2 step.0 environment given (step.1).1 publisher.id its;
       }

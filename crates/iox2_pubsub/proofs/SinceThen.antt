@@ -98,11 +98,7 @@ module _ {T U F G : Type 0} (start old new : Kept T U F G) (subscriber : Subscri
       → IsServedOrPending old new blocked subscriber values → IsServedOrPending start new blocked subscriber values
   served_or_pending_since settings its blocked values same came =
       ⊎_elim
-      (λ served. inl (
-        served_since settings its blocked.loan.publisher values same served.0,
-        served.1,
-        λ one. served.2 (ap (λ (c : ServiceConfig). c.max_subscribers) settings ∙ one),
-      ))
+      (λ served. inl (served_since settings its blocked.loan.publisher values same served.0, served.1))
       (λ pending. inr (as_before_twice same pending.0, pending.1))
       came
 

@@ -409,13 +409,12 @@ pub record WaitsAsBefore {T U F G : Type 0} (old new : Kept T U F G) (subscriber
   pub all : payloads new subscriber ≡ payloads old subscriber
   pub from : (publisher : ℕ) → payloads_from new publisher subscriber ≡ payloads_from old publisher subscriber
 
--- The send that is blocked now has served the subscriber with these values and comes to it no more, so that there may
--- be another for which it waits; or nothing moved for the subscriber, and the send has it before it.
+-- The send that is blocked now has served the subscriber with these values and comes to it no more; or nothing moved for
+-- the subscriber, and the send has it before it.
 abbrev pub IsServedOrPending : {T U F G : Type 0} → (old new : Kept T U F G) → BlockedSend → Subscriber → List T
     → Type 0
 IsServedOrPending old new blocked subscriber values =
-    (IsServed old new blocked.loan.publisher subscriber values × HasPassed new blocked subscriber
-    × ((old.config).max_subscribers ≢ 1))
+    (IsServed old new blocked.loan.publisher subscriber values × HasPassed new blocked subscriber)
     ⊎ (WaitsAsBefore old new subscriber × IsPending new blocked subscriber values)
 
 -- Each other subscriber that was up to date is.

@@ -1,5 +1,6 @@
 -- What a receive returns, and what it gives.
-use Rattle.std.specs.Prelude.{ℕ, ◌≡◌, ◌≢◌, ◌<◌, ◌+◌, [], ◌∷◌, suc, List, IfErr, IfNone, IfOk, IfSome, IsOk, OnOk, ⊤}
+use Rattle.std.specs.Prelude.{ℕ, ◌≡◌, ◌≢◌, ◌<◌, ◌+◌, [], ◌∷◌, suc, length, List, IfErr, IfNone, IfOk, IfSome, IsOk}
+use Rattle.std.specs.Prelude.{OnOk, ⊤}
 use Rattle.std.specs.declared.option.Option.{Option}
 use Rattle.std.specs.declared.option.Option.TheVariants.{None, Some}
 use Rattle.std.specs.declared.result.Result.{Result}
@@ -9,11 +10,12 @@ use Rattle.iox2_machine.specs.machine.Records.{Environment}
 use Rattle.iox2_machine.specs.declared.errors.ReceiveError.{ReceiveError}
 use Rattle.iox2_machine.specs.declared.errors.ReceiveError.TheVariants.{ExceedsMaxBorrows}
 use Rattle.iox2_domain.specs.Kept.{Kept}
-use Rattle.iox2_pubsub.specs.BorrowsLeft.{BorrowsLeftStay, HasBorrowsLeft, TakesOneBorrow}
+use Rattle.iox2_pubsub.specs.BorrowsLeft.{BorrowsLeftStay, HasBorrowsLeft, HasBorrowsLeftOf, OthersBorrowsStay}
+use Rattle.iox2_pubsub.specs.BorrowsLeft.{TakesOneBorrow}
 use Rattle.iox2_pubsub.specs.Leaves.{LeavesButWaiting}
 use Rattle.iox2_pubsub.specs.Live.{AreAllSlices, IsConsistent, IsFromOrigin, IsLiveSample, IsNewIn, IsUpToDate}
 use Rattle.iox2_pubsub.specs.Live.{KeepsAll, LeavesLater, LeavesOthers, TakesFirst, TakesOldest, WaitingStays, payloads}
-use Rattle.iox2_pubsub.specs.Live.{received_sample, sample_key, waiting}
+use Rattle.iox2_pubsub.specs.Live.{payloads_from, received_sample, sample_key, waiting}
 use Rattle.iox2_pubsub.specs.MachineSteps.{TakesStep}
 use Rattle.iox2_pubsub.specs.Slices.{SampleHasValues}
 use Rattle.iox2_pubsub.specs.Sample.{Sample}
@@ -48,11 +50,13 @@ pub record IsReceived {T U F G : Type 0} (receiver : Subscriber) (sample : Sampl
   pub first : TakesFirst receiver sample old new
   pub later : LeavesLater receiver old new
   pub rest : KeepsAll old receiver → LeavesOthers receiver sample old new
+  pub borrows : OthersBorrowsStay sample.origin receiver old new
 
 -- The subscriber receives as the machine does, where handlers answer so, with this result: it is given a sample, or
 -- nothing waits for it, or there is an error; and without an error it is up to date.
 -- If it is given none, what waits is as it was. While it has borrows left, no limit refuses it one, and if it was up to
--- date nothing does.
+-- date nothing does. Nor does anything if it has some left of a publisher of which a message waits, however many it has
+-- borrowed of others.
 pub record ReceivesSample {T U F G : Type 0} (environment : Environment) (receiver : Subscriber)
     (result : Result (Option Sample) ReceiveError) (old new : Kept T U F G) : Type 0 where
   pub consistent : IsConsistent old
@@ -64,6 +68,8 @@ pub record ReceivesSample {T U F G : Type 0} (environment : Environment) (receiv
   pub updated : OnOk result (IsUpToDate new receiver)
   pub undisturbed : KeepsAll old receiver → OnNoSample result (WaitingStays old new)
   pub granted : (n : ℕ) → IsUpToDate old receiver → HasBorrowsLeft old receiver (n + 1) → IsOk result
+  pub granted_of : (publisher n : ℕ) → IsUpToDate old receiver → HasBorrowsLeftOf old publisher receiver (n + 1)
+      → 0 < length (payloads_from old publisher receiver) → IsOk result
   pub unlimited : (n : ℕ) → HasBorrowsLeft old receiver (n + 1) → IfErr result (λ error. error ≢ ExceedsMaxBorrows)
   pub takes : TakesOneBorrow receiver old new
   pub borrows_left : OnNoSample result (BorrowsLeftStay old new)

@@ -35,7 +35,6 @@ module _ {U F G : Type 0} (start old new : Kept ℕ U F G) (waited : BlockedSend
           subst (λ (p : ℕ). IsServed start new p recorder (number ∷ [])) (sym same)
               (served_still start old new recorder waited.loan.publisher (number ∷ []) served.0 left.0),
           left.1,
-          served.2,
         ))
         (λ waits. served_or_pending_since start old new recorder under.settings under.buffer again (number ∷ []) waits.0
         (resumes.pending recorder (number ∷ []) tried waits.1 under.connected))

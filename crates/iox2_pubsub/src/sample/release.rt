@@ -11,11 +11,11 @@ impl<K> Sample<K> {
     ghost use Rattle.iox2_machine.specs.machine.Mailbox.{is_borrowed};
     ghost use Rattle.iox2_machine.specs.machine.Releases.{released};
     ghost use Rattle.iox2_machine.specs.machine.State.{State, Messages};
-    ghost use Rattle.iox2_pubsub.specs.BorrowsLeft.{HasOneMoreBorrowLeft};
-    ghost use Rattle.iox2_pubsub.specs.Live.{IsLiveSample, received_sample};
+    ghost use Rattle.iox2_pubsub.specs.BorrowsLeft.{HasOneMoreBorrowLeft, HasOneMoreBorrowLeftOf};
+    ghost use Rattle.iox2_pubsub.specs.Live.{IsFromOrigin, IsLiveSample, received_sample};
     ghost use Rattle.iox2_pubsub.specs.Leaves.{LeavesBut};
     ghost use Rattle.iox2_domain.specs.Shows.{Shows};
-    ghost use Rattle.iox2_pubsub.specs.Handles.{receiver_of, sample_number};
+    ghost use Rattle.iox2_pubsub.specs.Handles.{origin_of, receiver_of, sample_number};
 
     /// Gives the message back to its publisher, which may use its slot again once nobody else has
     /// it. Takes no memory.
@@ -32,6 +32,7 @@ impl<K> Sample<K> {
             → (s' : State T U) × Shows domain.new m s' × (s' ≡ released s publisher (receiver_of self) (sample_number self)) }
         ensures spent { IsLiveSample domain.new self → ⊥ }
         ensures gives_back { HasOneMoreBorrowLeft (receiver_of self) domain.old domain.new }
+        ensures gives_back_of { IsFromOrigin domain.old self → HasOneMoreBorrowLeftOf (origin_of self) (receiver_of self) domain.old domain.new }
         ensures leaves { LeavesBut (received_sample self) domain.old domain.new }
     {
         let Sample {

@@ -1,6 +1,8 @@
-use Rattle.std.proofs.Common.{◌≡◌, ℕ, ◌<◌, ◌∷◌, [], List, length, arith, subst, sym, inr, ⊎_elim}
+use Rattle.std.proofs.Common.{◌≡◌, ℕ, ◌<◌, ◌∷◌, [], List, length, arith, ap, subst, sym, ◌∙◌, inr}
+use Rattle.iox2_pubsub.specs.Domains.{Key, ServiceConfig}
 use Rattle.iox2_pubsub.specs.Handles.{blocked_sender, buffer_size_of}
-use Rattle.iox2_pubsub.specs.Live.{AllFrom}
+use Rattle.iox2_pubsub.specs.Live.{AllFrom, IsConnected}
+use Rattle.iox2_pubsub.proofs.AllSubscribers.{only_one_is_pending}
 use Rattle.iox2_pubsub.proofs.ForCallers.{all_from_as_before, length_singles, singles_append}
 use Rattle.iox2_pubsub.specs.Payloads.{singles}
 use Rattle.message_patterns.proofs.blocking.push_again.Goals as goal
@@ -8,14 +10,17 @@ use Rattle.message_patterns.proofs.blocking.push_again.Goals as goal
 pub returns-in-Ok-Blocked-clause-waits : goal.returns-in-Ok-Blocked-clause-waits
 returns-in-Ok-Blocked-clause-waits g c = λ subscriber value earlier pending joined wait.
     let sent = rw c.in-Ok-Blocked.field-0-is at c.in-Ok-Blocked.ensures in
-    ⊎_elim
-    (λ it. absurd (it.2 c.requires.one))
-    (λ it. (
-      all_from_as_before c.args.domain.now c.retry.new.domain subscriber it.0 (blocked_sender c.args.waiting)
-          (singles earlier) wait,
-      it.1,
-    ))
-    (sent.resumes.pending subscriber (value ∷ []) tt pending joined)
+    let new = c.retry.new.domain in
+    let again = c.in-Ok-Blocked.again in
+    let sender = blocked_sender c.args.waiting in
+    let same : blocked_sender again ≡ sender = ap (λ (k : Key). k.port) sent.goes_on.blocked.1 in
+    let left = only_one_is_pending new (sent.goes_on.stays.consistent sent.consistent) again c.args.domain.now
+    subscriber (value ∷ []) (ap (λ (it : ServiceConfig). it.max_subscribers) sent.goes_on.stays.settings
+    ∙ c.requires.one)
+    (subst (λ (p : ℕ). IsConnected new p subscriber) (sym same)
+    (sent.goes_on.up_to_date.connections sender subscriber joined))
+    (sent.resumes.pending subscriber (value ∷ []) tt pending joined) in
+    (all_from_as_before c.args.domain.now new subscriber left.0 sender (singles earlier) wait, left.1)
 
 pub returns-in-Ok-Delivered-clause-taken : goal.returns-in-Ok-Delivered-clause-taken
 returns-in-Ok-Delivered-clause-taken g c = λ subscriber value earlier pending joined wait its room.

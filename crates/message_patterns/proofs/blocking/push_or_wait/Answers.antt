@@ -1,5 +1,8 @@
-use Rattle.std.proofs.Common.{⊎_elim}
-use Rattle.iox2_pubsub.specs.Handles.{publisher_id}
+use Rattle.std.proofs.Common.{◌≡◌, ℕ, ◌∷◌, [], ap, subst, sym, ◌∙◌}
+use Rattle.iox2_pubsub.specs.Domains.{Key, ServiceConfig}
+use Rattle.iox2_pubsub.specs.Handles.{blocked_sender, publisher_id}
+use Rattle.iox2_pubsub.specs.Live.{IsConnected}
+use Rattle.iox2_pubsub.proofs.AllSubscribers.{only_one_is_pending}
 use Rattle.iox2_pubsub.proofs.ForCallers.{all_from_as_before}
 use Rattle.iox2_pubsub.specs.Payloads.{singles}
 use Rattle.message_patterns.proofs.Waits.{room-for-one, takes-next}
@@ -17,14 +20,15 @@ returns-in-Ok-Delivered-clause-taken g c = λ reader earlier more takes.
 pub returns-in-Ok-Blocked-clause-waits : goal.returns-in-Ok-Blocked-clause-waits
 returns-in-Ok-Blocked-clause-waits g c = λ reader earlier wait joined.
     let sent = rw c.in-Ok-Blocked.field-0-is at c.in-Ok-Blocked.ensures in
-    ⊎_elim
-    (λ it. absurd (it.2 c.requires.one))
-    (λ it. (
-      all_from_as_before c.args.domain.now c.send_copy.new.domain reader it.0 (publisher_id c.args.publisher.now)
-          (singles earlier) wait,
-      it.1,
-    ))
-    (sent.pending reader joined)
+    let new = c.send_copy.new.domain in
+    let publisher = publisher_id c.args.publisher.now in
+    let waiting = c.in-Ok-Blocked.waiting in
+    let same : blocked_sender waiting ≡ publisher = ap (λ (k : Key). k.port) sent.blocked.1 in
+    let left = only_one_is_pending new (sent.stays.consistent sent.consistent) waiting c.args.domain.now reader
+    (c.args.value ∷ []) (ap (λ (it : ServiceConfig). it.max_subscribers) sent.stays.settings ∙ c.requires.one)
+    (subst (λ (p : ℕ). IsConnected new p reader) (sym same) (sent.up_to_date.connections publisher reader joined))
+    (sent.pending reader joined) in
+    (all_from_as_before c.args.domain.now new reader left.0 publisher (singles earlier) wait, left.1)
 
 pub returns-in-Ok-Blocked-clause-roomy : goal.returns-in-Ok-Blocked-clause-roomy
 returns-in-Ok-Blocked-clause-roomy g c =

@@ -30,7 +30,7 @@ unreachable-requires-in-Err c =
     let reader = c.args.subscriber.now in
     true≢false
     (sym (c.in-Err.ensures.granted (c.in_ok-waiting.ensures.up_to_date.subscribers reader c.requires.up_to_date)
-    (c.in_ok-waiting.ensures.borrows reader 1 c.requires.borrows)))
+    (c.in_ok-waiting.ensures.borrows.all reader 1 c.requires.borrows)))
 
 pub unreachable-requires : goal.unreachable-requires
 unreachable-requires c =

@@ -80,6 +80,7 @@ returns g c =
         strategy = refl;
         longest = refl;
         is_new = made.new_in;
+        borrows = made.borrows;
         connects = made.connects;
       };
       left = λ enough first. made.left enough first refl;

@@ -189,10 +189,16 @@ pub returns-in_err-loan-clause-borrows_left : goal.returns-in_err-loan-clause-bo
 returns-in_err-loan-clause-borrows_left g c = c.in_err-loan.ensures.leaves.borrows_left
 
 pub returns-clause-borrows_left : goal.returns-clause-borrows_left
-returns-clause-borrows_left g c = λ subscriber n left.
-    c.send.ensures.spends.borrows_left subscriber n
-    (c.write_payload.ensures.becomes.leaves.borrows_left subscriber n
-    (c.in_ok-loan.ensures.leaves.borrows_left subscriber n left))
+returns-clause-borrows_left g c = record {
+  all = λ subscriber n left.
+      c.send.ensures.spends.borrows_left.all subscriber n
+      (c.write_payload.ensures.becomes.leaves.borrows_left.all subscriber n
+      (c.in_ok-loan.ensures.leaves.borrows_left.all subscriber n left));
+  of_each = λ p subscriber n left.
+      c.send.ensures.spends.borrows_left.of_each p subscriber n
+      (c.write_payload.ensures.becomes.leaves.borrows_left.of_each p subscriber n
+      (c.in_ok-loan.ensures.leaves.borrows_left.of_each p subscriber n left));
+}
 
 pub returns-clause-roomy_alone : goal.returns-clause-roomy_alone
 returns-clause-roomy_alone g c = λ subscriber has.

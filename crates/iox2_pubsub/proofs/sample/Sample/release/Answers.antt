@@ -1,6 +1,7 @@
-use Rattle.std.proofs.Common.{◌≡◌, ℕ, true, refl, subst}
+use Rattle.std.proofs.Common.{◌≡◌, ℕ, true, refl, ap, subst, ◌∙◌}
 use Rattle.iox2_machine.specs.machine.Mailbox.{is_borrowed}
 use Rattle.iox2_machine.specs.machine.Releases.{released as machine-released}
+use Rattle.iox2_machine.specs.machine.State.{State}
 use Rattle.iox2_domain.specs.Fields.{kept_of}
 use Rattle.iox2_domain.specs.Kept.{state_of}
 use Rattle.iox2_domain.specs.Reaches.{Reaches}
@@ -10,7 +11,8 @@ use Rattle.iox2_pubsub.proofs.CallsStay.{sample-shown, release-stays, release-sp
 use Rattle.iox2_pubsub.proofs.SampleReads.{its-place, sample-held}
 use Rattle.iox2_pubsub.proofs.WaitingShown.{release-waits}
 use Rattle.iox2_pubsub.proofs.UpToDateShown.{release-leaves}
-use Rattle.iox2_pubsub.proofs.BorrowsLeftShown.{release-borrows, release-gives}
+use Rattle.iox2_pubsub.proofs.BorrowsLeftShown.{release-borrows, release-gives, release-gives-of}
+use Rattle.iox2_pubsub.proofs.LiveParts.{origin-parts}
 use Rattle.iox2_pubsub.proofs.LoansLeftShown.{release-left}
 use Rattle.iox2_pubsub.proofs.StaysBut.{same-boxes}
 use Rattle.iox2_pubsub.proofs.sample.Sample.release.Goals as goal
@@ -70,3 +72,16 @@ returns-clause-gives_back g c =
     let step = returns-clause-released g c it.0 it.1 it.2 (it.3).0 (it.3).1 in
     release-gives {T = g.row.T.Denot} {U = g.row.U.Denot} c.args.domain.now _ it.0 it.0 it.1 step.0 it.2 step.1
     (it.3).0 c.args.self.sample.subscriber c.args.self.sample.number (it.3).1 step.2
+
+pub returns-clause-gives_back_of : goal.returns-clause-gives_back_of
+returns-clause-gives_back_of g c = λ from.
+    let it = sample-shown {T = g.row.T.Denot} {U = g.row.U.Denot} c.domain.inside.state c.args.domain.now
+    c.domain.invariant c.domain.view_is _ c.requires.live.there in
+    let origin = c.args.self.origin in
+    let borrowed : is_borrowed c.args.self.sample.number (it.1.mailboxes origin c.args.self.sample.subscriber) ≡ true =
+    ap (λ (t : State g.row.T.Denot g.row.U.Denot).
+    is_borrowed c.args.self.sample.number (t.mailboxes origin c.args.self.sample.subscriber)) (it.2).state
+    ∙ origin-parts c.args.domain.now c.args.self from in
+    let step = returns-clause-released g c it.0 it.1 it.2 origin borrowed in
+    release-gives-of {T = g.row.T.Denot} {U = g.row.U.Denot} c.args.domain.now _ it.0 it.0 it.1 step.0 it.2 step.1
+    origin c.args.self.sample.subscriber c.args.self.sample.number borrowed step.2

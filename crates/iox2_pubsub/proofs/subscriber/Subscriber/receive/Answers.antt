@@ -17,7 +17,8 @@ use Rattle.iox2_pubsub.proofs.WaitingShown.{received-fewer, received-none, recei
 use Rattle.iox2_pubsub.proofs.UpToDateShown.{received-updated}
 use Rattle.iox2_pubsub.proofs.UpdatesLeave.{reception-left}
 use Rattle.iox2_pubsub.proofs.PublisherWaits.{one-is-all, receive-takes-first}
-use Rattle.iox2_pubsub.proofs.BorrowsLeftShown.{receive-borrows-none, receive-granted, receive-takes, receive-unlimited}
+use Rattle.iox2_pubsub.proofs.BorrowsLeftShown.{receive-borrows-none, receive-granted, receive-granted-of}
+use Rattle.iox2_pubsub.proofs.BorrowsLeftShown.{receive-leaves-of, receive-takes, receive-unlimited}
 use Rattle.iox2_pubsub.proofs.KeptReceives.{nothing-moves, nothing-waited, one-fewer-waits, others-wait-still}
 use Rattle.iox2_pubsub.proofs.StaysBut.{consistent-shown, same-boxes}
 use Rattle.iox2_pubsub.proofs.subscriber.Subscriber.receive.Given.{Over}
@@ -79,6 +80,13 @@ returns-in_err-receipt g c =
           }) c.receive_at.new.state) it.0 it.0 it.1 step.0 it.2 step.1
           (answers_of g.F.BackpressureFn.allows g.G.DegradationFn.allows c.args.domain.now.boxes.subscribers)
           c.args.self.now n updated left c.from_residual.result step.2;
+      granted_of = λ p n updated left some. receive-granted-of {T = g.row.T.Denot} {U = g.row.U.Denot} c.args.domain.now
+          (keeping (record {
+            publishers = (c.domain.inside.boxes).boxes;
+            subscribers = (c.domain.inside.subscriber_boxes).boxes;
+          }) c.receive_at.new.state) it.0 it.0 it.1 step.0 it.2 step.1
+          (answers_of g.F.BackpressureFn.allows g.G.DegradationFn.allows c.args.domain.now.boxes.subscribers)
+          c.args.self.now p n updated left some c.from_residual.result step.2;
       unlimited = λ n left. receive-unlimited {T = g.row.T.Denot} {U = g.row.U.Denot} c.args.domain.now
           (keeping (record {
             publishers = (c.domain.inside.boxes).boxes;
@@ -167,6 +175,13 @@ returns-in_default g c =
           }) c.receive_at.new.state) it.0 it.0 it.1 step.0 it.2 step.1
           (answers_of g.F.BackpressureFn.allows g.G.DegradationFn.allows c.args.domain.now.boxes.subscribers)
           c.args.self.now n updated left (Ok None) step.2;
+      granted_of = λ p n updated left some. receive-granted-of {T = g.row.T.Denot} {U = g.row.U.Denot} c.args.domain.now
+          (keeping (record {
+            publishers = (c.domain.inside.boxes).boxes;
+            subscribers = (c.domain.inside.subscriber_boxes).boxes;
+          }) c.receive_at.new.state) it.0 it.0 it.1 step.0 it.2 step.1
+          (answers_of g.F.BackpressureFn.allows g.G.DegradationFn.allows c.args.domain.now.boxes.subscribers)
+          c.args.self.now p n updated left some (Ok None) step.2;
       unlimited = λ n left. receive-unlimited {T = g.row.T.Denot} {U = g.row.U.Denot} c.args.domain.now
           (keeping (record {
             publishers = (c.domain.inside.boxes).boxes;
@@ -282,6 +297,13 @@ returns g c =
             }) c.receive_at.new.state) it.0 it.0 it.1 step.0 it.2 step.1
             (answers_of g.F.BackpressureFn.allows g.G.DegradationFn.allows c.args.domain.now.boxes.subscribers)
             c.args.self.now keeps (λ n entry at. at) sample.origin number step.2 other away;
+        borrows = receive-leaves-of {T = g.row.T.Denot} {U = g.row.U.Denot} c.args.domain.now
+            (keeping (record {
+              publishers = (c.domain.inside.boxes).boxes;
+              subscribers = (c.domain.inside.subscriber_boxes).boxes;
+            }) c.receive_at.new.state) it.0 it.0 it.1 step.0 it.2 step.1
+            (answers_of g.F.BackpressureFn.allows g.G.DegradationFn.allows c.args.domain.now.boxes.subscribers)
+            c.args.self.now sample.origin number step.2;
       };
       none = tt;
       nothing = λ keeps. tt;
@@ -307,6 +329,13 @@ returns g c =
           }) c.receive_at.new.state) it.0 it.0 it.1 step.0 it.2 step.1
           (answers_of g.F.BackpressureFn.allows g.G.DegradationFn.allows c.args.domain.now.boxes.subscribers)
           c.args.self.now n updated left (Ok (Some sample)) step.2;
+      granted_of = λ p n updated left some. receive-granted-of {T = g.row.T.Denot} {U = g.row.U.Denot} c.args.domain.now
+          (keeping (record {
+            publishers = (c.domain.inside.boxes).boxes;
+            subscribers = (c.domain.inside.subscriber_boxes).boxes;
+          }) c.receive_at.new.state) it.0 it.0 it.1 step.0 it.2 step.1
+          (answers_of g.F.BackpressureFn.allows g.G.DegradationFn.allows c.args.domain.now.boxes.subscribers)
+          c.args.self.now p n updated left some (Ok (Some sample)) step.2;
       unlimited = λ n left. receive-unlimited {T = g.row.T.Denot} {U = g.row.U.Denot} c.args.domain.now
           (keeping (record {
             publishers = (c.domain.inside.boxes).boxes;
