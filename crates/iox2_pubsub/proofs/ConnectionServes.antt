@@ -67,7 +67,7 @@ pub place-is : (ends : List (Option ℕ)) (q k place : ℕ) → place_from k end
 place-is [] q k place is = absurd (none-some place is)
 place-is (end ∷ rest) q k place is = place-in end rest q k place (place-is rest q (suc k) place) (is_port end q) refl is
 
-one-end : (ends : List (Option ℕ)) (place q : ℕ) → occupant ends place ≡ Some q → take 1 (drop place ends) ≡ Some q ∷ []
+pub one-end : (ends : List (Option ℕ)) (place q : ℕ) → occupant ends place ≡ Some q → take 1 (drop place ends) ≡ Some q ∷ []
 one-end [] place q at = absurd (none-some q at)
 one-end (end ∷ rest) zero q at = ap (λ (o : Option ℕ). o ∷ []) at
 one-end (end ∷ rest) (suc place) q at = one-end rest place q at
@@ -99,16 +99,16 @@ module _ {T U F G : Type 0} (old new : Kept T U F G) (m : Messages T U) (s : Sta
     (shown' : Shows new (messages_after_send m n l result) s')
     (h : SendsToConnection environment s n l 0 place result s')
     (subscriber : Subscriber) (at : IsAtConnection old p place subscriber) (is : IsConnected old p subscriber) where
-  abbrev here : IsConnected old l.publisher subscriber
+  abbrev pub here : IsConnected old l.publisher subscriber
   here = subst (λ (i : ℕ). IsConnected old i subscriber) (sym its) is
 
-  abbrev c : Connects s l.publisher subscriber.id
+  abbrev pub c : Connects s l.publisher subscriber.id
   c = connected-in old m s shown l.publisher subscriber here
 
-  abbrev ends : List (Option ℕ)
+  abbrev pub ends : List (Option ℕ)
   ends = (c.publisher).ends
 
-  stands : occupant ends place ≡ Some subscriber.id
+  pub stands : occupant ends place ≡ Some subscriber.id
   stands =
       let told : connection_place s l.publisher subscriber.id ≡ Some place =
       ap (λ (t : State T U). connection_place t l.publisher subscriber.id) shown.state
@@ -119,7 +119,7 @@ module _ {T U F G : Type 0} (old new : Kept T U F G) (m : Messages T U) (s : Sta
       let same : found.0 ≡ place = let first : place ≡ 0 + found.0 = found.1 in omega (arith, first) in
       ap (occupant ends) (sym same) ∙ found.2
 
-  delivers : DeliverAndConclude environment (with_loan s n None) l.publisher
+  pub delivers : DeliverAndConclude environment (with_loan s n None) l.publisher
       (sending n 0 0 place (take 1 (drop place ends)) 0 false) no_time s' (result_of_send result)
   delivers =
       by_option (DeliverAndConclude environment (with_loan s n None) l.publisher
@@ -130,7 +130,7 @@ module _ {T U F G : Type 0} (old new : Kept T U F G) (m : Messages T U) (s : Sta
       (sending n 0 0 place (take 1 (drop place z.ends)) 0 false) no_time s' (result_of_send result))
       (same_Some x c.publisher (sym present ∙ c.stands)) k)
 
-  comes : Comes s s' l.publisher n subscriber.id (c.subscriber).buffer (result_of_send result)
+  pub comes : Comes s s' l.publisher n subscriber.id (c.subscriber).buffer (result_of_send result)
   comes =
       let one : take 1 (drop place ends) ≡ Some subscriber.id ∷ [] = one-end ends place subscriber.id stands in
       goes-on-comes environment (with_loan s n None) l.publisher n 0 no_time place (take 1 (drop place ends)) 0 false s'
@@ -139,7 +139,7 @@ module _ {T U F G : Type 0} (old new : Kept T U F G) (m : Messages T U) (s : Sta
       (subst (λ (es : List (Option ℕ)). contains (occupants es) subscriber.id ≡ true) (sym one)
       (contains_first subscriber.id [])) (subst (λ (es : List (Option ℕ)). IsOnce (occupants es)) (sym one) (refl, tt))
 
-  touches : TouchesOnly s s' l.publisher
+  pub touches : TouchesOnly s s' l.publisher
   touches =
       let it = goes-on-touches environment (with_loan s n None) l.publisher n 0 0 no_time place
       (take 1 (drop place ends)) 0 false s' (result_of_send result) delivers in

@@ -55,7 +55,7 @@ failed-end s p n (Complete count failed) s' error h = by failed h.1 where
 failed-end s p n (Suspended b) s' error h = let clash : Send_error error ≡ Blocked_send = h.1 in absurd cc
 
 module _ {T U : Type 0} (environment : Environment) where
-  failed-delivery : (s : State T U) (p n retries : ℕ) (elapsed : Duration) (place : ℕ) (ends : List (Option ℕ))
+  pub failed-delivery : (s : State T U) (p n retries : ℕ) (elapsed : Duration) (place : ℕ) (ends : List (Option ℕ))
       (count : ℕ) (failed : Bool) (s' : State T U) (error : SendError)
       → DeliverAndConclude environment s p (sending n 0 retries place ends count failed) elapsed s' (Send_error error)
       → error ≡ UnableToDeliver
@@ -143,7 +143,7 @@ module _ {T U : Type 0} (environment : Environment) where
 -- ---- for the calls
 
 -- after an error of delivery, the message is one
-error-messages : {T U : Type 0} (m : Messages T U) (n : ℕ) (l : Loan T U) (error : SendError) → error ≡ UnableToDeliver
+pub error-messages : {T U : Type 0} (m : Messages T U) (n : ℕ) (l : Loan T U) (error : SendError) → error ≡ UnableToDeliver
     → messages_after_send m n l (Err error) n ≡ Some (entry_of l)
 error-messages m n l error is = subst (λ (e : SendError). messages_after_send m n l (Err e) n ≡ Some (entry_of l))
     (sym is) (put_at-same m n (Some (entry_of l)))

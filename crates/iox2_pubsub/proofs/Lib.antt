@@ -114,3 +114,4 @@ pub mod FullReceivers
 pub mod ShareLaws
 pub mod OtherConnections
 pub mod FailedSends
+pub mod ConnectionEnds

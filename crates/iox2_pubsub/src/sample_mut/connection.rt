@@ -15,13 +15,14 @@ impl SampleMut {
     ghost use Rattle.iox2_machine.specs.machine.Limits.{channel_count};
     ghost use Rattle.iox2_machine.specs.machine.Records.{Loan};
     ghost use Rattle.iox2_machine.specs.machine.State.{State, Messages};
+    ghost use Rattle.iox2_pubsub.specs.BlockedSends.{IsNext};
     ghost use Rattle.iox2_pubsub.specs.Counts.{HaveTaken};
-    ghost use Rattle.iox2_pubsub.specs.Live.{AddAtMost, AllFrom, HasItsBuffer, IsAtConnection, IsConnected};
+    ghost use Rattle.iox2_pubsub.specs.Live.{AddAtMost, AllFrom, HasItsBuffer, IsAtConnection, IsConnected, IsFull};
     ghost use Rattle.iox2_pubsub.specs.Live.{IsServed, IsServedOrPending, IsUnblocked, IsWritten, WaitsAsBefore};
     ghost use Rattle.iox2_pubsub.specs.Live.{payloads_from, waiting, written_key};
     ghost use Rattle.iox2_pubsub.specs.Slices.{HasValues};
     ghost use Rattle.iox2_pubsub.specs.declared.subscriber.Subscriber.{Subscriber};
-    ghost use Rattle.iox2_pubsub.specs.SendCalls.{FailsDelivery, IfBlocked, IsDelivered, SendsToConnection, SpendsLoan, messages_after_send};
+    ghost use Rattle.iox2_pubsub.specs.SendCalls.{AfterError, FailsDelivery, IfBlocked, IsDelivered, SendsToConnection, SpendsLoan, messages_after_send};
     ghost use Rattle.iox2_domain.specs.Boxes.{answers_of};
     ghost use Rattle.iox2_domain.specs.Shows.{Shows};
     ghost use Rattle.iox2_pubsub.specs.Handles.{buffer_size_of, subscriber_id, written_lender, written_number};
@@ -101,6 +102,17 @@ impl SampleMut {
             → HasValues domain.old (written_number self) values
             → IfOk result (λ outcome. IfBlocked outcome
             (λ blocked. IsServedOrPending domain.old domain.new blocked subscriber values)) }
+        ensures failed { (subscriber : Subscriber) (values : List T) → channel ≡ 0
+            → IsAtConnection domain.old (written_lender self) connection subscriber
+            → IsConnected domain.old (written_lender self) subscriber
+            → HasValues domain.old (written_number self) values
+            → IfErr result (AfterError domain.old domain.new (written_lender self) subscriber values) }
+        ensures full { (subscriber : Subscriber) → channel ≡ 0
+            → IsAtConnection domain.old (written_lender self) connection subscriber
+            → IsConnected domain.old (written_lender self) subscriber
+            → IfOk result (λ outcome. IfBlocked outcome
+            (λ blocked. IsNext domain.new blocked subscriber
+            × IsFull domain.old (written_lender self) subscriber)) }
         ensures counts { (subscriber : Subscriber) (values : List T) → channel ≡ 0
             → IsAtConnection domain.old (written_lender self) connection subscriber
             → IsConnected domain.old (written_lender self) subscriber

@@ -191,6 +191,17 @@ impl SampleMut {
             → HasValues domain.old (written_number (as_written self)) values
             → IfOk result (λ outcome. IfBlocked outcome
             (λ blocked. IsServedOrPending domain.old domain.new blocked subscriber values)) }
+        ensures failed { (subscriber : Subscriber) (values : List T) → channel ≡ 0
+            → IsAtConnection domain.old (written_lender (as_written self)) connection subscriber
+            → IsConnected domain.old (written_lender (as_written self)) subscriber
+            → HasValues domain.old (written_number (as_written self)) values
+            → IfErr result (AfterError domain.old domain.new (written_lender (as_written self)) subscriber values) }
+        ensures full { (subscriber : Subscriber) → channel ≡ 0
+            → IsAtConnection domain.old (written_lender (as_written self)) connection subscriber
+            → IsConnected domain.old (written_lender (as_written self)) subscriber
+            → IfOk result (λ outcome. IfBlocked outcome
+            (λ blocked. IsNext domain.new blocked subscriber
+            × IsFull domain.old (written_lender (as_written self)) subscriber)) }
         ensures counts { (subscriber : Subscriber) (values : List T) → channel ≡ 0
             → IsAtConnection domain.old (written_lender (as_written self)) connection subscriber
             → IsConnected domain.old (written_lender (as_written self)) subscriber

@@ -15,6 +15,7 @@ use Rattle.iox2_messages.specs.SendEnds.{end_result}
 use Rattle.iox2_pubsub.specs.Live.{IsBlockedKey, blocked_key, written_key}
 use Rattle.iox2_pubsub.specs.SendCalls.{result_of_send}
 use Rattle.iox2_pubsub.proofs.SentLoans.{from-shown}
+use Rattle.iox2_pubsub.proofs.ConnectionEnds.{sends-to-fail, sends-to-full}
 use Rattle.iox2_pubsub.proofs.ConnectionServes.{sends-to-counts, sends-to-pends, sends-to-roomy, sends-to-serves}
 use Rattle.iox2_pubsub.proofs.OtherConnections.{sends-to-alone}
 use Rattle.iox2_pubsub.proofs.ConnectionSendShown.{leaves-sent-to, machine-sends-to, sent-to-stays, sent-to-others}
@@ -231,3 +232,22 @@ returns-clause-alone g c = λ other away.
     (answers_of g.F.BackpressureFn.allows g.G.DegradationFn.allows c.args.domain.now.boxes.publishers)
     c.args.self.loan.number it.l it.out c.args.self.loan.publisher it.its c.args.channel c.args.connection
     c.outcome_of.result it.step.0 it.step.1 it.step.2 other away
+
+pub returns-clause-failed : goal.returns-clause-failed
+returns-clause-failed g c = λ subscriber values first at connected reads.
+    let it = from-shown {T = g.row.T.Denot} {U = g.row.U.Denot} c.domain.inside.state c.domain.invariant
+    c.args.domain.now c.domain.view_is c.args.self c.requires.live (returns-clause-sent g c) in
+    sends-to-fail {T = g.row.T.Denot} {U = g.row.U.Denot} c.args.domain.now _ it.m it.s it.shown
+    (answers_of g.F.BackpressureFn.allows g.G.DegradationFn.allows c.args.domain.now.boxes.publishers)
+    c.args.self.loan.number it.l it.out c.args.self.loan.publisher it.its c.args.channel c.args.connection first
+    c.outcome_of.result it.step.0 it.step.1 it.step.2 subscriber values at connected reads
+
+pub returns-clause-full : goal.returns-clause-full
+returns-clause-full g c = λ subscriber first at connected.
+    let it = from-shown {T = g.row.T.Denot} {U = g.row.U.Denot} c.domain.inside.state c.domain.invariant
+    c.args.domain.now c.domain.view_is c.args.self c.requires.live (returns-clause-sent g c) in
+    sends-to-full {T = g.row.T.Denot} {U = g.row.U.Denot} c.args.domain.now _ it.m it.s it.shown
+    (answers_of g.F.BackpressureFn.allows g.G.DegradationFn.allows c.args.domain.now.boxes.publishers)
+    c.args.self.loan.number it.l it.out c.args.self.loan.publisher it.its c.args.channel c.args.connection first
+    c.outcome_of.result it.step.0 it.step.1 it.step.2 (written_key c.args.self) refl
+    (returns-clause-spends g c).blocked subscriber at connected
