@@ -1,10 +1,10 @@
 //! A number is pushed behind those that wait for the one subscriber of a domain. Where that is full, the
 //! blocked send is given to the caller, who tries it again once there is room.
-ghost use Rattle.std.specs.Prelude.{ℕ, List, [], ◌∷◌, ◌++◌, ◌+◌, ◌<◌, ◌≤◌, ◌≡◌, length, IfNone, IfOk, IfSome, OnOk};
+ghost use Rattle.std.specs.Prelude.{ℕ, List, [], ◌∷◌, ◌++◌, ◌+◌, ◌<◌, ◌≤◌, ◌≡◌, length, IfNone, IfOk, IfSome, MatchResult, OnOk};
 ghost use Rattle.iox2_pubsub.specs.Handles.{blocked_sender, buffer_size_of, publisher_id};
 ghost use Rattle.iox2_pubsub.specs.Live.{A_blocked_send, HasItsBuffer, IsBlockedSend, IsConnected, IsLiveSubscriber};
 ghost use Rattle.iox2_pubsub.specs.Live.{IsPending, IsReadyPublisher, IsSingleValued, IsSubscriberKey, IsUpToDate};
-ghost use Rattle.iox2_pubsub.specs.Live.{StaysBut, UpToDateStay, blocked_key, lender_key, publisher_key};
+ghost use Rattle.iox2_pubsub.specs.Live.{Stays, StaysBut, UpToDateStay, blocked_key, lender_key, publisher_key};
 ghost use Rattle.iox2_pubsub.specs.Live.{subscriber_key};
 ghost use Rattle.iox2_pubsub.specs.BorrowsLeft.{BorrowsLeftStay, HasBorrowsLeft};
 ghost use Rattle.iox2_pubsub.specs.RoomyPublishers.{HasRoomAlone, HasRoomAt};
@@ -39,6 +39,7 @@ pub fn push_or_wait<F: BackpressureFn, G: DegradationFn>(
         (λ it. Wait domain.new (publisher_id publisher.now) subscriber earlier
         × IsPending domain.new it subscriber (value ∷ []))) }
     ensures blocked { IfOk result (λ waits. IfSome waits (λ it. IsBlockedSend domain.new it × (lender_key (blocked_key it) ≡ publisher_key publisher.now))) }
+    ensures ends { MatchResult result (λ waits. IfNone waits (Stays domain.old domain.new)) (λ _. Stays domain.old domain.new) }
     ensures borrows { BorrowsLeftStay domain.old domain.new }
     ensures up_to_date { UpToDateStay domain.old domain.new }
     ensures stays { StaysBut (A_blocked_send (publisher_id publisher.now)) domain.old domain.new }

@@ -3,6 +3,7 @@
 #![tactic(auto)]
 
 mod blocking;
+mod closing;
 mod failure;
 mod joining;
 mod pairing;
@@ -14,6 +15,7 @@ mod spreading;
 mod voter;
 
 pub use blocking::{push_again, push_or_wait, push_over};
+pub use closing::close_both;
 pub use failure::Failure;
 use iox2_pubsub::{Domain, NoHandler};
 pub use joining::{is_idle, relay_if_idle};

@@ -1,9 +1,10 @@
 //! A number is sent to the two subscribers of a domain. Where one is full, the send waits for it, and what each has by
 //! then is said.
-ghost use Rattle.std.specs.Prelude.{ℕ, [], ◌∷◌, ◌≡◌, ◌≢◌, IfNone, IfOk, IfSome};
+ghost use Rattle.std.specs.Prelude.{ℕ, [], ◌∷◌, ◌≡◌, ◌≢◌, IfNone, IfOk, IfSome, MatchResult};
 ghost use Rattle.iox2_pubsub.specs.Handles.{blocked_sender, publisher_id, subscriber_id};
 ghost use Rattle.iox2_pubsub.specs.Live.{A_blocked_send, IsBlockedSend, IsConnected, IsPending, IsReadyPublisher};
-ghost use Rattle.iox2_pubsub.specs.Live.{IsServed, IsServedOrPending, IsSingleValued, StaysBut, UpToDateStay};
+ghost use Rattle.iox2_pubsub.specs.Live.{IsServed, IsServedOrPending, IsSingleValued, Stays, StaysBut, UpToDateStay};
+ghost use Rattle.iox2_pubsub.specs.Live.{blocked_item};
 ghost use Rattle.iox2_pubsub.specs.RoomyPublishers.{HasRoomAt};
 ghost use Rattle.iox2_pubsub.specs.declared.subscriber.Subscriber.{Subscriber as Port};
 
@@ -36,6 +37,7 @@ pub fn spread<F: BackpressureFn, G: DegradationFn>(
     ensures waits { IfOk result (λ waits. IfSome waits
         (λ it. IsBlockedSend domain.new it × IsServedOrPending domain.old domain.new it first.now (value ∷ [])
         × IsServedOrPending domain.old domain.new it second.now (value ∷ []))) }
+    ensures ends { MatchResult result (λ waits. IfNone waits (Stays domain.old domain.new)) (λ _. Stays domain.old domain.new) }
     ensures up_to_date { UpToDateStay domain.old domain.new }
     ensures stays { StaysBut (A_blocked_send (publisher_id publisher.now)) domain.old domain.new }
 {
@@ -56,6 +58,7 @@ pub fn spread_again<F: BackpressureFn, G: DegradationFn>(
         → IsConnected domain.old (blocked_sender waiting) subscriber
         → IfOk result (λ waits. IfNone waits (IsServed domain.old domain.new (blocked_sender waiting) subscriber (value ∷ []))) }
     ensures up_to_date { UpToDateStay domain.old domain.new }
+    ensures stays { StaysBut (blocked_item waiting) domain.old domain.new }
 {
     match waiting.retry(domain, Duration::ZERO) {
         Ok(SendOutcome::Delivered(_)) => Ok(None),

@@ -1,0 +1,37 @@
+//! A push makes room, a number goes to two subscribers, and a recorder stands beside a display, by the functions of
+//! `message_patterns`.
+#![tactic(auto)]
+
+mod failure;
+mod ports;
+mod pushing;
+mod recording;
+mod spreading;
+
+use failure::Failure;
+use pushing::push_three;
+use recording::record_three;
+use spreading::spread_two;
+
+fn main(rt: HostRuntime) -> Result<(), Failure> {
+    let pushed = push_three(rt.alloc())?;
+    if let Some(number) = pushed.taken_out {
+        println!(rt; "made room: {number} is out")?;
+    }
+    print_all(&rt, "waits", pushed.left.as_slice())?;
+    let spread = spread_two(rt.alloc())?;
+    println!(rt; "blocked: {}", spread.was_blocked)?;
+    print_all(&rt, "first", spread.first.as_slice())?;
+    print_all(&rt, "second", spread.second.as_slice())?;
+    let recorded = record_three(rt.alloc())?;
+    print_all(&rt, "recorded", recorded.recorded.as_slice())?;
+    print_all(&rt, "displayed", recorded.displayed.as_slice())
+}
+
+// Prints each number on a line of its own.
+fn print_all(rt: &HostRuntime, what: &str, numbers: &[u32]) -> Result<(), Failure> {
+    for number in numbers {
+        println!(rt; "{what} {number}")?;
+    }
+    Ok(())
+}
