@@ -3,7 +3,7 @@ ghost use Rattle.std.specs.Prelude.{◌≡◌};
 ghost use Rattle.iox2_pubsub.specs.BorrowsLeft.{HasBorrowsLeft};
 ghost use Rattle.iox2_pubsub.specs.Handles.{publisher_id};
 ghost use Rattle.iox2_pubsub.specs.Live.{HasItsBuffer, IsConnected, IsLiveSubscriber, IsReadyPublisher, IsSingleValued};
-ghost use Rattle.blocking_patterns.specs.Ports.{IsSetUp};
+ghost use Rattle.blocking_patterns.specs.Ports.{IsMadeFor};
 
 use crate::failure::Failure;
 use crate::ports::{connected_publisher, settings};
@@ -26,7 +26,7 @@ pub fn push_three(alloc: Global) -> Result<Pushed, Failure> {
 
 // Makes the ports, and closes them.
 fn with_ports(alloc: Global, domain: &mut Numbers) -> Result<Pushed, Failure>
-    requires { IsSetUp domain.old 1 }
+    requires { IsMadeFor domain.old 1 }
 {
     let subscriber = domain.subscriber_builder().create(domain)?;
     let publisher = match connected_publisher(domain) {

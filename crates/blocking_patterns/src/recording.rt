@@ -3,7 +3,7 @@ ghost use Rattle.std.specs.Prelude.{◌≢◌, OnOk};
 ghost use Rattle.iox2_pubsub.specs.Handles.{publisher_id, subscriber_id};
 ghost use Rattle.iox2_pubsub.specs.Live.{A_blocked_send, IsConnected, IsLiveSubscriber, IsReadyPublisher};
 ghost use Rattle.iox2_pubsub.specs.Live.{IsSingleValued, StaysBut, UpToDateStay};
-ghost use Rattle.blocking_patterns.specs.Ports.{IsSetUp};
+ghost use Rattle.blocking_patterns.specs.Ports.{IsMadeFor};
 
 use crate::failure::Failure;
 use crate::ports::{connected_publisher, settings};
@@ -26,7 +26,7 @@ pub fn record_three(alloc: Global) -> Result<Recorded, Failure> {
 
 // Makes the display.
 fn with_display(alloc: Global, domain: &mut Numbers) -> Result<Recorded, Failure>
-    requires { IsSetUp domain.old 2 }
+    requires { IsMadeFor domain.old 2 }
 {
     let display = domain.subscriber_builder().buffer_size(1).create(domain)?;
     match domain.subscriber_builder().create(domain) {
@@ -45,7 +45,7 @@ fn with_both(
     display: Subscriber,
     recorder: Subscriber,
 ) -> Result<Recorded, Failure>
-    requires set_up { IsSetUp domain.old 2 }
+    requires set_up { IsMadeFor domain.old 2 }
     requires display { IsLiveSubscriber domain.old display }
     requires recorder { IsLiveSubscriber domain.old recorder }
     requires apart { subscriber_id display ≢ subscriber_id recorder }

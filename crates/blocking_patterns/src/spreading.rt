@@ -2,7 +2,7 @@
 ghost use Rattle.std.specs.Prelude.{◌≡◌, ◌≢◌};
 ghost use Rattle.iox2_pubsub.specs.Handles.{publisher_id, subscriber_id};
 ghost use Rattle.iox2_pubsub.specs.Live.{IsConnected, IsLiveSubscriber, IsReadyPublisher, IsSingleValued};
-ghost use Rattle.blocking_patterns.specs.Ports.{IsSetUp};
+ghost use Rattle.blocking_patterns.specs.Ports.{IsMadeFor};
 
 use crate::failure::Failure;
 use crate::ports::{connected_publisher, settings};
@@ -26,7 +26,7 @@ pub fn spread_two(alloc: Global) -> Result<Spread, Failure> {
 
 // Makes the first subscriber.
 fn with_first(alloc: Global, domain: &mut Numbers) -> Result<Spread, Failure>
-    requires { IsSetUp domain.old 2 }
+    requires { IsMadeFor domain.old 2 }
 {
     let first = domain.subscriber_builder().buffer_size(1).create(domain)?;
     match domain.subscriber_builder().create(domain) {
@@ -45,7 +45,7 @@ fn with_both(
     first: Subscriber,
     second: Subscriber,
 ) -> Result<Spread, Failure>
-    requires set_up { IsSetUp domain.old 2 }
+    requires set_up { IsMadeFor domain.old 2 }
     requires first { IsLiveSubscriber domain.old first }
     requires second { IsLiveSubscriber domain.old second }
     requires apart { subscriber_id first ≢ subscriber_id second }

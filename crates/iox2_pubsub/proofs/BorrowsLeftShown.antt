@@ -1,9 +1,8 @@
 -- What calls leave of the messages that subscribers may still borrow, seen from outside.
-use Rattle.std.proofs.Common.{◌≡◌, ℕ, zero, suc, ◌+◌, ◌≤◌, ◌<◌, Bool, true, false, not, ◌&&◌, List, [], ◌∷◌, ◌++◌}
+use Rattle.std.proofs.Common.{◌≡◌, ℕ, zero, suc, ◌+◌, ◌≤◌, ◌<◌, Bool, true, false, not, List, [], ◌∷◌, ◌++◌}
 use Rattle.std.proofs.Common.{length, refl, sym, ap, subst, ◌∙◌, arith, le_refl, Option, None, Some, Result, Ok, Err}
-use Rattle.std.proofs.Common.{inl, inr, ⊎_elim}
+use Rattle.std.proofs.Common.{inl, inr}
 use Rattle.std.specs.Prelude.{◌≢◌, IfErr, IsOk, nat_lt}
-use Rattle.std.specs.List.{list_any}
 use Rattle.std.specs.declared.time.Duration.{Duration}
 use Rattle.std.proofs.lemmas.Bool.{true≢false, cases_eq, ne_eqb, ltb-false, ltb-true}
 use Rattle.std.proofs.lemmas.List.{length-append, length-map}
@@ -32,7 +31,7 @@ use Rattle.iox2_machine.specs.declared.service_config.ServiceConfig.{ServiceConf
 use Rattle.iox2_laws.proofs.Cases.{by_option}
 use Rattle.iox2_laws.proofs.LoanLaws.{grant_loan_advances}
 use Rattle.iox2_laws.proofs.MailboxLemmas.{has_numbers-borrows, has_numbers-data}
-use Rattle.iox2_laws.proofs.NumberLemmas.{contains_in_cons, length-without_le}
+use Rattle.iox2_laws.proofs.NumberLemmas.{length-without_le}
 use Rattle.iox2_laws.proofs.PortsStay.{grant_loan_stays}
 use Rattle.iox2_laws.proofs.Puts.{at_each, put_at-same, put_at-other}
 use Rattle.iox2_laws.proofs.SubscriberUpdates.{update_subscriber_keeps}

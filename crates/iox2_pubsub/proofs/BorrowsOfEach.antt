@@ -1,6 +1,7 @@
 -- What a receive borrows of each publisher, and when the limit can't refuse it.
-use Rattle.std.proofs.Common.{◌≡◌, ℕ, suc, ◌+◌, ◌≤◌, ◌<◌, Bool, true, false, cond, not, ◌&&◌, ◌||◌, List, [], ◌∷◌, ◌++◌, length}
-use Rattle.std.proofs.Common.{refl, sym, ap, subst, ◌∙◌, arith, Option, None, Some, ⊎_elim}
+use Rattle.std.proofs.Common.{◌≡◌, ℕ, suc, ◌+◌, ◌≤◌, ◌<◌, Bool, true, false, cond, not, ◌&&◌, ◌||◌, List, [], ◌∷◌, ◌++◌}
+use Rattle.std.proofs.Common.{length}
+use Rattle.std.proofs.Common.{refl, sym, ap, subst, ◌∙◌, arith, Some, ⊎_elim}
 use Rattle.std.specs.Prelude.{◌≢◌, nat_lt}
 use Rattle.std.specs.List.{list_any}
 use Rattle.std.proofs.lemmas.Bool.{true≢false, ne_eqb, ltb-false, or_parts}
@@ -24,7 +25,8 @@ use Rattle.iox2_pubsub.proofs.BorrowsKept.{BorrowsKept, subscriber-update-kept}
 use Rattle.iox2_pubsub.proofs.KeptReceives.{no-failure, unchanged}
 
 -- a test that fails at each of the list fails at this one
-pub fails-at : (test : ℕ → Bool) (ns : List ℕ) (n : ℕ) → list_any test ns ≡ false → contains ns n ≡ true → test n ≡ false
+pub fails-at : (test : ℕ → Bool) (ns : List ℕ) (n : ℕ) → list_any test ns ≡ false → contains ns n ≡ true
+    → test n ≡ false
 fails-at test [] n none at = absurd (true≢false (sym at))
 fails-at test (m ∷ ns) n none at =
     ⊎_elim
@@ -44,8 +46,8 @@ module _ {T U : Type 0} where
   abbrev pub part : State T U → (q p : ℕ) → ℕ
   part s q p = length (s.mailboxes p q).borrowed
 
-  -- A receive of q with this result borrows at most one message more of each publisher, none of others than that of what
-  -- it gives, and none for others.
+  -- A receive of q with this result borrows at most one message more of each publisher, none of others than that of
+  -- what it gives, and none for others.
   pub record BorrowsOneOf (s s' : State T U) (q : ℕ) (result : ReceiveResult) : Type 0 where
     pub own : (p : ℕ) → part s' q p ≤ suc (part s q p)
     pub others : (p j : ℕ) → j ≢ q → part s' j p ≡ part s j p
@@ -105,7 +107,8 @@ module _ {T U : Type 0} (environment : Environment) (s : State T U) (q : ℕ) wh
       taken t kept y No_sample k =
           subst (λ (u : State T U). BorrowsOneOf s u q No_sample) (sym k.1) (as-many s t q No_sample kept)
       taken t kept y (Receive_error e) k =
-          subst (λ (u : State T U). BorrowsOneOf s u q (Receive_error e)) (sym k.3) (as-many s t q (Receive_error e) kept)
+          subst (λ (u : State T U). BorrowsOneOf s u q (Receive_error e)) (sym k.3)
+          (as-many s t q (Receive_error e) kept)
 
   -- ---- where one may be borrowed of a publisher of which something waits
 
@@ -115,20 +118,20 @@ module _ {T U : Type 0} (environment : Environment) (s : State T U) (q : ℕ) wh
   lies p is some =
       by (receives_from is.0 p) refl (subst (λ (ns : List ℕ). 0 < length ns) (by_record s p q (Some is.0) is.1) some)
     where
-      known : (open due among : Bool) → due ≡ false → (open && (due || among)) ≡ true → among ≡ true
+      known : (opened due among : Bool) → due ≡ false → (opened && (due || among)) ≡ true → among ≡ true
       known true false among none both = both
       known true true among none both = absurd (true≢false none)
       known false due among none both = absurd (true≢false (sym both))
 
-      data : (ns : List ℕ) → 0 < length ns → not (is_nil ns) ≡ true
-      data [] some = absurd (omega (arith, some))
-      data (n ∷ ns) some = refl
+      nonempty : (ns : List ℕ) → 0 < length ns → not (is_nil ns) ≡ true
+      nonempty [] some = absurd (omega (arith, some))
+      nonempty (n ∷ ns) some = refl
 
       by : (b : Bool) → receives_from is.0 p ≡ b → 0 < length (cond b (s.mailboxes p q).waiting [])
           → (contains (connected_publishers is.0) p ≡ true) × (has_data (s.mailboxes p q) ≡ true)
       by true e some = (
         known (is.0).is_open (is.0).is_due (contains (connected_publishers is.0) p) is.3 e,
-        data (s.mailboxes p q).waiting some,
+        nonempty (s.mailboxes p q).waiting some,
       )
       by false e some = absurd (omega (arith, some))
 

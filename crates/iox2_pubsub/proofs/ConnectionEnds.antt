@@ -1,6 +1,6 @@
 -- How a send into channel 0 of one connection ends that is blocked, or fails, seen from outside.
-use Rattle.std.proofs.Common.{◌≡◌, ℕ, ⊎_elim, true, List, [], ◌∷◌, drop, take, refl, sym, ap, subst, ◌∙◌, Option, None, Some}
-use Rattle.std.proofs.Common.{Result, Ok, Err}
+use Rattle.std.proofs.Common.{◌≡◌, ℕ, ⊎_elim, true, false, List, [], ◌∷◌, drop, take, refl, sym, ap, subst, ◌∙◌, Option}
+use Rattle.std.proofs.Common.{None, Some, Result, Ok, Err}
 use Rattle.std.specs.Prelude.{IfErr, IfOk}
 use Rattle.iox2_machine.specs.machine.Delivery.{no_time}
 use Rattle.iox2_machine.specs.machine.Loans.{entry_of}
@@ -12,7 +12,6 @@ use Rattle.iox2_machine.specs.machine.State.{State, Messages, with_loan}
 use Rattle.iox2_machine.specs.declared.errors.SendError.{SendError}
 use Rattle.iox2_machine.specs.declared.errors.SendError.TheVariants.{UnableToDeliver}
 use Rattle.iox2_machine.specs.declared.key.Key.{Key}
-use Rattle.iox2_laws.proofs.ConnectionSendsLeave.{send_to_connection_remains}
 use Rattle.iox2_laws.proofs.NumberLemmas.{contains_one}
 use Rattle.iox2_domain.specs.Kept.{Kept, state_of}
 use Rattle.iox2_domain.specs.Shows.{Shows}
@@ -64,7 +63,7 @@ module _ {T U F G : Type 0} (old new : Kept T U F G) (m : Messages T U) (s : Sta
       (touches old new m s shown environment n l out p its place (Err error) s' shown' step subscriber at is) n
       (entry_of l) (error-messages m n l error undelivered)
       (to-connections environment s n l 0 place s' (Send_error error) step)
-      (send_to_connection_remains environment s n l 0 place s' (Send_error error) step).config subscriber joined
+      subscriber joined
       (connected-in old m s shown l.publisher subscriber joined)
       (⊎_elim (λ it. it.1)
       (λ it. absurd (let clash : Send_error error ≡ Blocked_send = it.0 in cc))

@@ -1,5 +1,5 @@
--- Laws that callers' proofs may cite: the place of a connection is its subscriber's, so that all calls keep it that keep
--- the connection.
+-- Laws that callers' proofs may cite: the place of a connection is its subscriber's, so that all calls keep it that
+-- keep the connection.
 use Rattle.std.proofs.Common.{◌≡◌, ℕ, zero, suc, ◌+◌, Bool, true, false, List, [], ◌∷◌, refl, sym, ap, subst, arith}
 use Rattle.std.proofs.Common.{◌∙◌, Option, None, Some}
 use Rattle.std.specs.Prelude.{if◌then◌else◌}
@@ -12,8 +12,8 @@ use Rattle.iox2_machine.specs.machine.State.{State}
 use Rattle.iox2_laws.proofs.PlaceLemmas.{is_port-false}
 use Rattle.iox2_domain.specs.Kept.{Kept, state_of}
 use Rattle.iox2_pubsub.specs.ConnectedPorts.{Connects}
-use Rattle.iox2_pubsub.specs.Live.{IsAtConnection, IsConnected, IsConsistent, IsLiveSubscriber, Stays, UpToDateStay}
-use Rattle.iox2_pubsub.specs.Live.{subscriber_key}
+use Rattle.iox2_pubsub.specs.Live.{IsAtConnection, IsConnected, IsConsistent, IsLiveSubscriber, IsOtherSubscriber, Item}
+use Rattle.iox2_pubsub.specs.Live.{StaysBut, UpToDateStay, subscriber_key}
 use Rattle.iox2_pubsub.specs.declared.subscriber.Subscriber.{Subscriber}
 use Rattle.iox2_pubsub.proofs.ConnectionServes.{connection-is, connection-parts, place-is}
 use Rattle.iox2_pubsub.proofs.ForCallers.{shows_some, well}
@@ -24,18 +24,19 @@ use Rattle.iox2_pubsub.proofs.UpToDateShown.{connected-in}
 place-found : (ends : List (Option ℕ)) (q k i : ℕ) → occupant ends i ≡ Some q
     → (place : ℕ) × (place_from k ends q ≡ Some place)
 place-found [] q k i at = absurd (none-some q at)
-place-found (end ∷ rest) q k i at = by i at (is_port end q) refl where
-  by : (i : ℕ) → occupant (end ∷ rest) i ≡ Some q → (b : Bool) → is_port end q ≡ b
+place-found (end ∷ rest) q k i at = by (λ j there. place-found rest q (suc k) j there) i at (is_port end q) refl where
+  by : ((j : ℕ) → occupant rest j ≡ Some q → (place : ℕ) × (place_from (suc k) rest q ≡ Some place)) → (i : ℕ)
+      → occupant (end ∷ rest) i ≡ Some q → (b : Bool) → is_port end q ≡ b
       → (place : ℕ) × (place_from k (end ∷ rest) q ≡ Some place)
-  by i at true e = (k, ap (λ (b : Bool). if b then Some k else place_from (suc k) rest q) e)
-  by zero at false e = absurd (is_port-false end q e at)
-  by (suc j) at false e =
-      let later = place-found rest q (suc k) j at in
-      (later.0, ap (λ (b : Bool). if b then Some k else place_from (suc k) rest q) e ∙ later.1)
+  by later i at true e = (k, ap (λ (b : Bool). if b then Some k else place_from (suc k) rest q) e)
+  by later zero at false e = absurd (is_port-false end q e at)
+  by later (suc j) at false e =
+      let behind = later j at in
+      (behind.0, ap (λ (b : Bool). if b then Some k else place_from (suc k) rest q) e ∙ behind.1)
 
 module _ {T U F G : Type 0} (domain : Kept T U F G) (consistent : IsConsistent domain) (publisher : ℕ)
     (subscriber : Subscriber) (live : IsLiveSubscriber domain subscriber) where
-  s : State T U
+  abbrev s : State T U
   s = state_of domain
 
   -- the place that is told of a connection is its subscriber's
@@ -54,7 +55,8 @@ module _ {T U F G : Type 0} (domain : Kept T U F G) (consistent : IsConsistent d
           (sym (ap (option_and_then (λ (x : Publisher). place_from 0 x.ends subscriber.id)) e) ∙ told) in
           let there = (subscriber-parts domain (subscriber_key subscriber) live.there).2 in
           let place : there.0.place ≡ found.0 =
-          ((well domain consistent).publishers publisher x e).ends_stand found.0 subscriber.id there.0 found.2 there.1 in
+          ((well domain consistent).publishers publisher x e).ends_stand found.0 subscriber.id there.0 found.2
+          there.1 in
           let own : there.0.place ≡ subscriber.place =
           (placed-subscriber-parts domain subscriber live.placed).1 there.0 there.1 in
           let told_at : connection ≡ 0 + found.0 = found.1 in
@@ -73,14 +75,14 @@ module _ {T U F G : Type 0} (domain : Kept T U F G) (consistent : IsConsistent d
       (ap (option_and_then (λ (x : Publisher). place_from 0 x.ends subscriber.id)) c.stands ∙ found.1) in
       subst (λ (place : ℕ). IsAtConnection domain publisher place subscriber) (at_its_place found.0 at) at
 
--- a call that keeps the connection keeps its place
-pub connection_stays : {T U F G : Type 0} (old new : Kept T U F G) → IsConsistent old → Stays old new
-    → UpToDateStay old new → (publisher connection : ℕ) (subscriber : Subscriber) → IsLiveSubscriber old subscriber
-    → IsConnected old publisher subscriber → IsAtConnection old publisher connection subscriber
-    → IsAtConnection new publisher connection subscriber
-connection_stays old new consistent stays stay publisher connection subscriber live is at =
+-- a call that keeps the connection and its subscriber keeps its place
+pub connection_stays : {T U F G : Type 0} (spent : Item) (old new : Kept T U F G) → IsConsistent old
+    → StaysBut spent old new → UpToDateStay old new → (publisher connection : ℕ) (subscriber : Subscriber)
+    → IsOtherSubscriber spent subscriber.id → IsLiveSubscriber old subscriber → IsConnected old publisher subscriber
+    → IsAtConnection old publisher connection subscriber → IsAtConnection new publisher connection subscriber
+connection_stays spent old new consistent stays stay publisher connection subscriber other live is at =
     let still : IsLiveSubscriber new subscriber = record {
-      there = stays.subscribers (subscriber_key subscriber) live.there tt;
+      there = stays.subscribers (subscriber_key subscriber) live.there other;
       placed = stays.placed_subscribers subscriber live.placed;
     } in
     subst (λ (place : ℕ). IsAtConnection new publisher place subscriber)

@@ -20,7 +20,6 @@ use Rattle.iox2_machine.specs.declared.errors.SendError.{SendError}
 use Rattle.iox2_machine.specs.declared.key.Key.{Key}
 use Rattle.iox2_laws.specs.Sendings.{sending}
 use Rattle.iox2_laws.proofs.Cases.{by_option}
-use Rattle.iox2_laws.proofs.ConnectionSendsLeave.{send_to_connection_remains}
 use Rattle.iox2_laws.proofs.NumberLemmas.{contains_first, contains_one}
 use Rattle.iox2_laws.proofs.PlaceLemmas.{is_port-true}
 use Rattle.iox2_laws.proofs.Puts.{put_at-same}
@@ -67,7 +66,8 @@ pub place-is : (ends : List (Option ℕ)) (q k place : ℕ) → place_from k end
 place-is [] q k place is = absurd (none-some place is)
 place-is (end ∷ rest) q k place is = place-in end rest q k place (place-is rest q (suc k) place) (is_port end q) refl is
 
-pub one-end : (ends : List (Option ℕ)) (place q : ℕ) → occupant ends place ≡ Some q → take 1 (drop place ends) ≡ Some q ∷ []
+pub one-end : (ends : List (Option ℕ)) (place q : ℕ) → occupant ends place ≡ Some q
+    → take 1 (drop place ends) ≡ Some q ∷ []
 one-end [] place q at = absurd (none-some q at)
 one-end (end ∷ rest) zero q at = ap (λ (o : Option ℕ). o ∷ []) at
 one-end (end ∷ rest) (suc place) q at = one-end rest place q at
@@ -160,7 +160,7 @@ module _ {T U F G : Type 0} (old new : Kept T U F G) (m : Messages T U) (s : Sta
       (box-served old new m (messages_after_send m n l result) s s' shown shown'
       (sent-before-stays m n l result sent) l.publisher touches n (entry_of l) is_sent
       (to-connections environment s n l 0 place s' (result_of_send result) h)
-      (send_to_connection_remains environment s n l 0 place s' (result_of_send result) h).config subscriber here c
+      subscriber here c
       it.1)))
       (λ it. absurd (ended it.0))
       comes)
@@ -280,7 +280,7 @@ module _ {T U F G : Type 0} (old new : Kept T U F G) (m : Messages T U) (s : Sta
       (touches old new m s shown environment n l out p its place (Ok (Blocked again)) s' shown' step subscriber at is) n
       (entry_of l) (put_at-same m n (Some (entry_of l)))
       (to-connections environment s n l 0 place s' Blocked_send step)
-      (send_to_connection_remains environment s n l 0 place s' Blocked_send step).config subscriber joined
+      subscriber joined
       (connected-in old m s shown l.publisher subscriber joined) again
       (its ∙ sym port ∙ ap (λ (k : Key). k.port) (sym blocked.1))
       (sym message ∙ ap (λ (k : Key). k.message) (sym blocked.1)) blocked.0 values

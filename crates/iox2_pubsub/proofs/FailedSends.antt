@@ -23,7 +23,6 @@ use Rattle.iox2_laws.proofs.Cases.{by_option, by_bool}
 use Rattle.iox2_laws.proofs.PlaceLemmas.{IsOnce-occupants, contains-occupants}
 use Rattle.iox2_laws.proofs.PublisherUpdates.{update_publisher_keeps}
 use Rattle.iox2_laws.proofs.Puts.{put_at-same}
-use Rattle.iox2_laws.proofs.SendsRemain.{send_remains}
 use Rattle.iox2_laws.proofs.UpToDate.{update_publisher_subscribers}
 use Rattle.iox2_domain.specs.Kept.{Kept, state_of}
 use Rattle.iox2_domain.specs.Shows.{Shows}
@@ -143,7 +142,8 @@ module _ {T U : Type 0} (environment : Environment) where
 -- ---- for the calls
 
 -- after an error of delivery, the message is one
-pub error-messages : {T U : Type 0} (m : Messages T U) (n : ℕ) (l : Loan T U) (error : SendError) → error ≡ UnableToDeliver
+pub error-messages : {T U : Type 0} (m : Messages T U) (n : ℕ) (l : Loan T U) (error : SendError)
+    → error ≡ UnableToDeliver
     → messages_after_send m n l (Err error) n ≡ Some (entry_of l)
 error-messages m n l error is = subst (λ (e : SendError). messages_after_send m n l (Err e) n ≡ Some (entry_of l))
     (sym is) (put_at-same m n (Some (entry_of l)))
@@ -172,7 +172,7 @@ sends-fail {T} {U} old new m s environment shown n l p
           (box-served old new m (messages_after_send m n l (Err error)) s s' shown shown' sent l.publisher touches n
           (entry_of l) (error-messages m n l error is_undelivered)
           (send-connections environment s n l s' (Send_error error) shown.well_formed h)
-          (send_remains environment s n l s' (Send_error error) h).config subscriber here c it.1)))
+          subscriber here c it.1)))
           (λ it. absurd (it.0 is_undelivered))
           fails,
       λ other. ⊎_elim

@@ -16,7 +16,6 @@ use Rattle.iox2_machine.specs.machine.State.{State, Messages}
 use Rattle.iox2_machine.specs.machine.Waiting.{waiting_from}
 use Rattle.iox2_machine.specs.declared.errors.SendError.{SendError}
 use Rattle.iox2_machine.specs.declared.key.Key.{Key}
-use Rattle.iox2_laws.proofs.SendsRemain.{give_up_remains, retry_remains}
 use Rattle.iox2_laws.proofs.WaitingCounts.{same_from}
 use Rattle.iox2_domain.specs.Kept.{Kept, state_of, entries_of}
 use Rattle.iox2_domain.specs.Shows.{Shows}
@@ -115,8 +114,7 @@ module _ {T U F G : Type 0} (old new : Kept T U F G) (m m' : Messages T U) (s s'
       (others-wait s s' p touches subscriber.id other away))
 
   module _ (n : ℕ) (entry : Entry T U) (is_sent : m' n ≡ Some entry) (connects : ConnectsStay s s')
-      (settings : s'.config ≡ s.config) (subscriber : Subscriber) (is : IsConnected old p subscriber)
-      (c : Connects s p subscriber.id) where
+      (subscriber : Subscriber) (is : IsConnected old p subscriber) (c : Connects s p subscriber.id) where
     -- it was served
     pub box-served : s'.mailboxes p subscriber.id ≡ served_box (s.config).enable_safe_overflow (c.subscriber).buffer n
         (s.mailboxes p subscriber.id) → IsServed old new p subscriber entry.values
@@ -174,8 +172,7 @@ module _ {T U F G : Type 0} (old new : Kept T U F G) (m : Messages T U) (s s' : 
     (shown' : Shows new m s') (waited : BlockedSend) (outcome : Result SendOutcome SendError)
     (its : IfOk outcome (λ came. IfBlocked came (λ it. it ≡ waited)))
     (live : IfOk outcome (λ came. IfBlocked came (IsBlockedSend new)))
-    (touches : TouchesOnly s s' waited.loan.publisher) (connects : ConnectsStay s s')
-    (settings : s'.config ≡ s.config) where
+    (touches : TouchesOnly s s' waited.loan.publisher) (connects : ConnectsStay s s') where
   abbrev p : ℕ
   p = waited.loan.publisher
 
@@ -221,7 +218,7 @@ module _ {T U F G : Type 0} (old new : Kept T U F G) (m : Messages T U) (s s' : 
         ⊎_elim
         (λ it. subst (IsServed old new p subscriber) reads.2
         (box-served old new m m s s' shown shown' (λ k entry at. at) p touches n reads.0
-        (shown.entries n reads.0 reads.1) connects settings subscriber is c it.1))
+        (shown.entries n reads.0 reads.1) connects subscriber is c it.1))
         (λ it. absurd (ended it.0))
         (comes subscriber tried (goes-in subscriber (pending-parts old waited subscriber values pending).1) c)
 
@@ -242,7 +239,7 @@ module _ {T U F G : Type 0} (old new : Kept T U F G) (m : Messages T U) (s s' : 
         ⊎_elim
         (λ it. absurd (it.0 waits))
         (λ it. split-shown old new m m s s' shown shown' (λ k entry at. at) p touches n reads.0
-        (shown.entries n reads.0 reads.1) connects settings subscriber is c waited refl refl
+        (shown.entries n reads.0 reads.1) connects subscriber is c waited refl refl
         (still-live waits) values reads.2 it.1)
         (comes subscriber tried (goes-in subscriber (pending-parts old waited subscriber values pending).1) c))
 
@@ -296,7 +293,6 @@ module _ {T U F G : Type 0} (old new : Kept T U F G) (m : Messages T U) (s s' : 
       (goes-on-touches environment s waited.loan.publisher b.message b.channel
       (more_retries b.retries) elapsed b.place b.ends b.count b.has_failed s' (result_of_send outcome) h)
       (retry-connections environment s waited.loan.publisher b elapsed s' (result_of_send outcome) h)
-      (retry_remains environment s waited.loan.publisher b elapsed s' (result_of_send outcome) h).config
       (λ subscriber. ⊤)
       (λ subscriber tried goes c.
       retry-comes environment s waited.loan.publisher waited.loan.number subscriber.id elapsed s'
@@ -327,16 +323,13 @@ module _ {T U F G : Type 0} (old new : Kept T U F G) (m : Messages T U) (s s' : 
     connections : ConnectsStay s s'
     connections = give-up-connections environment s waited.loan.publisher b s' (result_of_send outcome) h
 
-    settings : s'.config ≡ s.config
-    settings = (give_up_remains environment s waited.loan.publisher b s' (result_of_send outcome) h).config
-
     given-up : (v : MachineBlocked) → b ≡ v → GiveUp environment s waited.loan.publisher v s' (result_of_send outcome)
     given-up v same =
         subst (λ (w : MachineBlocked). GiveUp environment s waited.loan.publisher w s' (result_of_send outcome)) same h
 
     pub give-up-resumes : Resumes (IsNotNext old waited) waited outcome old new
     give-up-resumes =
-        resumed old new m s s' shown shown' waited outcome its lives touches connections settings (IsNotNext old waited)
+        resumed old new m s s' shown shown' waited outcome its lives touches connections (IsNotNext old waited)
         (λ subscriber tried goes c.
         give-up-comes environment s waited.loan.publisher waited.loan.number subscriber.id s'
         (result_of_send outcome) shown.well_formed goes c (λ next. tried (next-from subscriber next))
@@ -353,7 +346,7 @@ module _ {T U F G : Type 0} (old new : Kept T U F G) (m : Messages T U) (s s' : 
         let goes : GoesTo s waited.loan.publisher waited.loan.number subscriber.id =
         subst (λ (t : State T U). GoesTo t waited.loan.publisher waited.loan.number subscriber.id) (sym shown.state)
         (pending-parts old waited subscriber values pending).1 in
-        left-behind old new m s s' shown shown' waited outcome its lives touches connections settings subscriber
+        left-behind old new m s s' shown shown' waited outcome its lives touches connections subscriber
         (give-up-skips environment s waited.loan.publisher waited.loan.number subscriber.id s'
         (result_of_send outcome) shown.well_formed goes (next-in subscriber next)
         (given-up goes.blocked (goes-is s waited.loan.publisher waited.loan.number subscriber.id x b at waits goes)))

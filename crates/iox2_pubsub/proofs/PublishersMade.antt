@@ -155,5 +155,6 @@ module _ {T U F G : Type 0} {boxes : DomainBoxes F G} (f g : Fields T U) (sound 
             (subst (λ (s : State T U). worst_case s.config given.max_loaned_samples ≤ slots_for s.config given)
             (sym (it.2).state) enough) publisher its long (step.1).1;
         grows = created-grows kept new it.0 it.0 it.1 t it.2 step.0 environment given publisher its (step.1).1;
-        borrows = created-unborrowed kept new it.0 it.0 it.1 t it.2 step.0 environment given (step.1).1 publisher.id its;
+        borrows =
+            created-unborrowed kept new it.0 it.0 it.1 t it.2 step.0 environment given (step.1).1 publisher.id its;
       }

@@ -8,9 +8,7 @@ use Rattle.iox2_machine.specs.machine.Sends.{Blocked_send}
 use Rattle.iox2_machine.specs.machine.State.{State, Messages, is_blocked}
 use Rattle.iox2_machine.specs.declared.errors.SendError.{SendError}
 use Rattle.iox2_machine.specs.declared.key.Key.{Key}
-use Rattle.iox2_machine.specs.declared.service_config.ServiceConfig.{ServiceConfig}
 use Rattle.iox2_laws.proofs.Puts.{put_at-same}
-use Rattle.iox2_laws.proofs.SendsRemain.{send_remains}
 use Rattle.iox2_domain.specs.Kept.{Kept, state_of}
 use Rattle.iox2_domain.specs.Shows.{Shows}
 use Rattle.iox2_pubsub.specs.Live.{HasItsBuffer, IsBlockedSend, IsConnected, IsServedOrPending, WaitingStays}
@@ -52,7 +50,7 @@ module _ {T U F G : Type 0} (old new : Kept T U F G) (m : Messages T U) (s : Sta
       (sent-before-stays m n l (Ok (Blocked again)) unsent) l.publisher
       (send-touches environment s n l s' Blocked_send h) n (entry_of l)
       (put_at-same m n (Some (entry_of l))) (send-connections environment s n l s' Blocked_send shown.well_formed h)
-      (send_remains environment s n l s' Blocked_send h).config subscriber here c again
+      subscriber here c again
       (its ∙ sym port ∙ ap (λ (k : Key). k.port) (sym blocked.1))
       (sym message ∙ ap (λ (k : Key). k.message) (sym blocked.1)) blocked.0 values
       (loan-values old m s shown n l values out reads)
@@ -68,11 +66,8 @@ copy-pends old mid new waits settings buffers subscriber values (Ok (Delivered c
 copy-pends old mid new waits settings buffers subscriber values (Err error) pends = tt
 copy-pends {T} {U} {F} {G} old mid new waits settings buffers subscriber values (Ok (Blocked blocked)) pends =
     ⊎_elim
-    (λ it. inl (
-      served-since old mid new waits settings buffers blocked.loan.publisher subscriber values it.0,
-      it.1,
-      λ one. it.2 (ap (λ (c : ServiceConfig). c.max_subscribers) settings ∙ one),
-    ))
+    (λ it. inl
+    (served-since old mid new waits settings buffers blocked.loan.publisher subscriber values it.0, it.1))
     (λ it. inr (
       record {
         all = it.0.all ∙ ap (λ (f : Subscriber → List (List T)). f subscriber) waits.all;

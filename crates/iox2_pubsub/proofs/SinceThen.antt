@@ -1,8 +1,10 @@
 -- Laws that callers' proofs may cite: who was served or left alone, seen from before or later, and blocked sends.
-use Rattle.std.proofs.Common.{◌≡◌, ℕ, suc, ◌<◌, ◌≤◌, ◌⊎◌, List, [], ◌∷◌, ◌++◌, length, drop, refl, sym, ap, subst, ◌∙◌}
-use Rattle.std.proofs.Common.{arith, inl, inr, ⊎_elim, Option, None, Some}
+use Rattle.std.proofs.Common.{◌≡◌, ℕ, suc, ◌+◌, ◌<◌, ◌≤◌, ◌⊎◌, Bool, true, false, List, [], ◌∷◌, ◌++◌, length, drop}
+use Rattle.std.proofs.Common.{refl}
+use Rattle.std.proofs.Common.{sym, ap, subst, ◌∙◌, arith, inl, inr, ⊎_elim, Option, None, Some}
 use Rattle.std.specs.Bool.{MatchBool}
 use Rattle.std.proofs.lemmas.Bool.{cases_eq}
+use Rattle.std.proofs.lemmas.List.{length-append}
 use Rattle.std.proofs.lemmas.Option.{none-some, same_Some}
 use Rattle.iox2_machine.specs.declared.key.Key.{Key}
 use Rattle.iox2_machine.specs.declared.service_config.ServiceConfig.{ServiceConfig}
@@ -39,6 +41,30 @@ pub served_with_room : {T U F G : Type 0} (old new : Kept T U F G) (publisher : 
 unfolding IsServed
 served_with_room old new publisher subscriber values has served =
     ⊎_elim (λ came. (came.0, came.1)) (λ full. absurd (room_not_full old publisher subscriber has full.0)) served
+
+-- where it was served, something of the publisher waits
+pub served_waits : {T U F G : Type 0} (old new : Kept T U F G) (publisher : ℕ) (subscriber : Subscriber)
+    (values : List T) → IsServed old new publisher subscriber values
+    → 0 < length (payloads_from new publisher subscriber)
+unfolding IsServed
+served_waits {T} old new publisher subscriber values served =
+    ⊎_elim
+    (λ came. subst (λ (now : List (List T)). 0 < length now) (sym came.0)
+    (behind (payloads_from old publisher subscriber)))
+    (λ full. by full.0 (old.config).enable_safe_overflow full.1)
+    served
+  where
+    behind : (before : List (List T)) → 0 < length (before ++ values ∷ [])
+    behind before = let longer : length (before ++ values ∷ []) ≡ length before + 1 =
+        length-append before (values ∷ []) in omega (arith, longer)
+
+    by : IsFull old publisher subscriber → (b : Bool) → MatchBool b
+        (payloads_from new publisher subscriber ≡ drop 1 (payloads_from old publisher subscriber) ++ values ∷ [])
+        (payloads_from new publisher subscriber ≡ payloads_from old publisher subscriber)
+        → 0 < length (payloads_from new publisher subscriber)
+    by full true is = subst (λ (now : List (List T)). 0 < length now) (sym is)
+        (behind (drop 1 (payloads_from old publisher subscriber)))
+    by full false is = subst (λ (now : List (List T)). 0 < length now) (sym is) full.some
 
 module _ {T U F G : Type 0} (start old new : Kept T U F G) (subscriber : Subscriber) where
   -- where nothing moved for a subscriber twice, nothing moved

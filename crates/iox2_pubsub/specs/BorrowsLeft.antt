@@ -24,8 +24,8 @@ module _ {T U F G : Type 0} where
   unfoldable pub HasBorrowsLeft : Kept T U F G → Subscriber → (n : ℕ) → Type 0
   HasBorrowsLeft domain subscriber n = CanBorrow (state_of domain) subscriber.id n
 
-  -- The limit of borrows can't refuse the subscriber n messages more of the publisher with this id. Of another one it may
-  -- have as many.
+  -- The limit of borrows can't refuse the subscriber n messages more of the publisher with this id. Of another one it
+  -- may have as many.
   unfoldable pub HasBorrowsLeftOf : Kept T U F G → (publisher : ℕ) → Subscriber → (n : ℕ) → Type 0
   HasBorrowsLeftOf domain publisher subscriber n = CanBorrowOf (state_of domain) publisher subscriber.id n
 

@@ -409,8 +409,8 @@ pub record WaitsAsBefore {T U F G : Type 0} (old new : Kept T U F G) (subscriber
   pub all : payloads new subscriber ≡ payloads old subscriber
   pub from : (publisher : ℕ) → payloads_from new publisher subscriber ≡ payloads_from old publisher subscriber
 
--- The send that is blocked now has served the subscriber with these values and comes to it no more; or nothing moved for
--- the subscriber, and the send has it before it.
+-- The send that is blocked now has served the subscriber with these values and comes to it no more; or nothing moved
+-- for the subscriber, and the send has it before it.
 abbrev pub IsServedOrPending : {T U F G : Type 0} → (old new : Kept T U F G) → BlockedSend → Subscriber → List T
     → Type 0
 IsServedOrPending old new blocked subscriber values =

@@ -19,7 +19,7 @@ pub use closing::close_both;
 pub use failure::Failure;
 use iox2_pubsub::{Domain, NoHandler};
 pub use joining::{is_idle, relay_if_idle};
-pub use pairing::{send_beside, send_both};
+pub use pairing::{read_beside, send_beside, send_both};
 pub use passing::{read_all, read_one, send_all, send_one};
 pub use queues::Queue;
 pub use recording::{record, record_again};

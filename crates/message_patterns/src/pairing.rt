@@ -1,12 +1,15 @@
 //! Several publishers send to one subscriber.
-ghost use Rattle.std.specs.Prelude.{List, [], ◌∷◌, ◌≡◌, ◌≢◌, ℕ, OnOk};
+ghost use Rattle.std.specs.Prelude.{List, [], ◌∷◌, ◌<◌, ◌≡◌, ◌≢◌, ℕ, length, IsOk, OnOk};
+ghost use Rattle.iox2_pubsub.specs.BorrowsLeft.{HasBorrowsLeftOf};
 ghost use Rattle.iox2_pubsub.specs.Handles.{publisher_id};
-ghost use Rattle.iox2_pubsub.specs.Live.{IsConnected, IsLivePublisher, IsSingleValued, Stays, UpToDateStay, waiting};
+ghost use Rattle.iox2_pubsub.specs.Live.{IsConnected, IsLivePublisher, IsLiveSubscriber, IsSingleValued, IsUpToDate};
+ghost use Rattle.iox2_pubsub.specs.Live.{Stays, UpToDateStay, payloads_from, waiting};
 ghost use Rattle.iox2_pubsub.specs.Shares.{AllFromEach, HasNoShare, Share, share_of};
 ghost use Rattle.iox2_pubsub.specs.declared.subscriber.Subscriber.{Subscriber as Port};
 
 use crate::Numbers;
 use crate::failure::Failure;
+use crate::passing::read_one;
 use iox2_pubsub::{Publisher, Subscriber};
 
 /// Each publisher sends its reading to the subscriber, for which nothing waits before.
@@ -51,4 +54,22 @@ pub fn send_beside(domain: &mut Numbers, publisher: &Publisher, reading: u32) ->
         }
         Err(error) => Err(Failure::Send(error)),
     }
+}
+
+/// Reads a number. A reading of this publisher waits, and the subscriber may hold one of it. So the read isn't refused,
+/// even if it holds as many of other publishers as it may.
+pub fn read_beside(
+    domain: &mut Numbers,
+    publisher: &Publisher,
+    subscriber: &Subscriber,
+) -> Result<Option<u32>, Failure>
+    requires single_valued { IsSingleValued domain.old }
+    requires subscriber { IsLiveSubscriber domain.old subscriber.now }
+    requires up_to_date { IsUpToDate domain.old subscriber.now }
+    requires borrows { HasBorrowsLeftOf domain.old (publisher_id publisher.now) subscriber.now 1 }
+    requires waits { 0 < length (payloads_from domain.old (publisher_id publisher.now) subscriber.now) }
+    ensures granted { IsOk result }
+    ensures stays { Stays domain.old domain.new }
+{
+    read_one(domain, subscriber)
 }

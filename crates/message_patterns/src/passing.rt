@@ -7,7 +7,7 @@ ghost use Rattle.iox2_pubsub.specs.Live.{UpToDateStay, WaitingStays, payloads_fr
 ghost use Rattle.iox2_pubsub.specs.Live.{waiting};
 ghost use Rattle.iox2_pubsub.specs.LoansLeft.{HasOneMoreLeft, LoansLeftStay};
 ghost use Rattle.iox2_pubsub.specs.declared.subscriber.Subscriber.{Subscriber as Port};
-ghost use Rattle.iox2_pubsub.specs.BorrowsLeft.{BorrowsLeftStay, HasBorrowsLeft};
+ghost use Rattle.iox2_pubsub.specs.BorrowsLeft.{BorrowsLeftStay, HasBorrowsLeft, HasBorrowsLeftOf};
 ghost use Rattle.message_patterns.specs.Values.{CanSendValues, OnNoValue, TakesMore, Wait};
 
 use crate::Numbers;
@@ -88,6 +88,8 @@ pub fn read_one(domain: &mut Numbers, subscriber: &Subscriber) -> Result<Option<
     ensures none { IfOk result (λ read. IfNone read (waiting domain.new subscriber.now ≡ 0)) }
     ensures nothing { KeepsAll domain.old subscriber.now → IfOk result (λ read. IfNone read (waiting domain.old subscriber.now ≡ 0)) }
     ensures granted { IsUpToDate domain.old subscriber.now → HasBorrowsLeft domain.old subscriber.now 1 → IsOk result }
+    ensures granted_of { (publisher : ℕ) → IsUpToDate domain.old subscriber.now → HasBorrowsLeftOf domain.old publisher subscriber.now 1
+        → 0 < length (payloads_from domain.old publisher subscriber.now) → IsOk result }
     ensures borrows { HasBorrowsLeft domain.old subscriber.now 1 → HasBorrowsLeft domain.new subscriber.now 1 }
     ensures kept { KeepsAll domain.old subscriber.now → OnNoValue result (WaitingStays domain.old domain.new) }
     ensures up_to_date { UpToDateStay domain.old domain.new }
