@@ -1,9 +1,10 @@
 //! What each pattern starts from: a service in which a publisher waits at a full buffer.
 ghost use Rattle.std.specs.Prelude.{◌≡◌, IfOk, OnOk};
 ghost use Rattle.iox2_pubsub.specs.Domains.{FixedSize};
-ghost use Rattle.iox2_pubsub.specs.BorrowsLeft.{BorrowsLeftStay};
+ghost use Rattle.iox2_pubsub.specs.BorrowsLeft.{BorrowsLeftStay, HasBorrowsLeftOf};
 ghost use Rattle.iox2_pubsub.specs.Handles.{publisher_id};
-ghost use Rattle.iox2_pubsub.specs.Live.{IsConnected, IsReadyPublisher, IsSubscriberKey, Stays, subscriber_key};
+ghost use Rattle.iox2_pubsub.specs.Live.{IsConnected, IsReadyPublisher, IsSubscriberKey, RoomStays, Stays};
+ghost use Rattle.iox2_pubsub.specs.Live.{subscriber_key};
 ghost use Rattle.iox2_pubsub.specs.declared.subscriber.Subscriber.{Subscriber as Port};
 
 use crate::failure::Failure;
@@ -19,7 +20,7 @@ pub fn settings(service_id: u128, subscribers: usize) -> ServiceConfig
     ensures subscribers { result.max_subscribers ≡ subscribers }
 {
     ServiceConfig {
-        max_publishers: 1,
+        max_publishers: 2,
         max_subscribers: subscribers,
         subscriber_max_buffer_size: 2,
         subscriber_max_borrowed_samples: 1,
@@ -34,6 +35,9 @@ pub fn connected_publisher(domain: &mut Numbers) -> Result<Publisher, Failure>
     ensures connected { IfOk result (λ it. (subscriber : Port) → IsSubscriberKey domain.old (subscriber_key subscriber)
         → IsConnected domain.new (publisher_id it) subscriber) }
     ensures borrows { OnOk result (BorrowsLeftStay domain.old domain.new) }
+    ensures unborrowed { IfOk result (λ it. (subscriber : Port) → HasBorrowsLeftOf domain.new (publisher_id it) subscriber
+        (domain.old.config).subscriber_max_borrowed_samples) }
+    ensures room { OnOk result (RoomStays domain.old domain.new) }
     ensures stays { Stays domain.old domain.new }
 {
     let refused = domain.refused_connections();

@@ -8,6 +8,8 @@ returns c =
     let first = subscriber_id c.args.first in
     let second = subscriber_id c.args.second in
     let start = c.args.domain.now in
-    subscriber_closed_too first (second ∷ []) start c.close.new.domain c.close-2.new.domain
-    (subscriber_closed_too second [] start start c.close.new.domain (none_closed start) c.close.ensures.leaves.stays)
-    c.close-2.ensures.leaves.stays
+    record {
+      stays = subscriber_closed_too first (second ∷ []) start c.close.new.domain c.close-2.new.domain
+          (subscriber_closed_too second [] start start c.close.new.domain (none_closed start)
+          c.close.ensures.leaves.stays) c.close-2.ensures.leaves.stays;
+    }

@@ -37,3 +37,7 @@ returns-clause-borrows c = λ left.
 
 pub returns-in-Err-clause-granted : goal.returns-in-Err-clause-granted
 returns-in-Err-clause-granted c = λ updated left. c.in-Err.ensures.granted 0 updated left
+
+pub returns-in-Err-clause-granted_of : goal.returns-in-Err-clause-granted_of
+returns-in-Err-clause-granted_of c =
+    λ publisher updated left some. c.in-Err.ensures.granted_of publisher 0 updated left some

@@ -58,7 +58,7 @@ invariant_of-self-2 c =
         buffer = takes.buffer;
         loans = c.send_loan.ensures.given_back c.self.inside.publisher 0 (sym c.in-Ok.ensures.loan.lent.publisher)
             (c.in-Ok.ensures.leaves.loans_left.loans 0 is.ports.loans);
-        borrows = c.send_loan.ensures.borrows c.self.inside.subscriber 1
+        borrows = c.send_loan.ensures.borrows.all c.self.inside.subscriber 1
             (c.in-Ok.ensures.leaves.borrows_left.all c.self.inside.subscriber 1 is.ports.borrows);
       };
       items = is.items ++ c.args.value ∷ [];
