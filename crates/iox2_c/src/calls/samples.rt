@@ -137,9 +137,9 @@ pub fn header(service: &Service, numbers: &SampleNumbers, out: &mut HeaderNumber
     OK
 }
 
-// A handle of a sample that is where its numbers say, and was borrowed last there.
+/// A handle of a sample that is where its numbers say, and was borrowed last there.
 #[inline(always)]
-fn sample_at_hint(domain: &mut BytesDomain, numbers: &SampleNumbers) -> Option<Sample>
+pub fn sample_at_hint(domain: &mut BytesDomain, numbers: &SampleNumbers) -> Option<Sample>
     ensures live { IfSome result (λ it. IsLiveSample domain.new it) }
     ensures named { IfSome result (λ it. sample_key it ≡ named_sample numbers.now) }
     ensures number { IfSome result (λ it. sample_number it ≡ wide (numbers.now).number) }

@@ -83,31 +83,13 @@ pub fn send(
         return send_recorded(service, numbers, receivers, blocked);
     }
     match service.domain.sends_at_once(&numbers.parts()) {
-        Some(book) => send_named(service, numbers, book, receivers, blocked, None),
-        None => send_elsewhere(service, numbers, receivers, blocked, None),
+        Some(book) => send_named(service, numbers, book, receivers, blocked),
+        None => send_elsewhere(service, numbers, receivers, blocked),
     }
 }
 
-// The same, and records it.
-#[cold]
-#[inline(never)]
-fn send_recorded(
-    service: &mut Service,
-    numbers: &LoanNumbers,
-    receivers: &mut usize,
-    blocked: &mut LoanNumbers,
-) -> u32
-    ensures { SendReturns numbers.now service.old service.new receivers.old receivers.new blocked.old blocked.new result }
-{
-    record_bytes(service, numbers);
-    let mut failed = None;
-    let code = send_elsewhere(service, numbers, receivers, blocked, Some(&mut failed));
-    service.recording.sent(numbers, code, *receivers, failed);
-    code
-}
-
-// The same, and why it failed, where that is asked. The loan is looked for in this book first. What was
-// found before of the loan, and of its publisher, isn't tested again here.
+// The same. The loan is looked for in this book first. What was found before of the loan, and of its
+// publisher, isn't tested again here.
 #[inline(always)]
 fn send_named(
     service: &mut Service,
@@ -115,7 +97,6 @@ fn send_named(
     book: usize,
     receivers: &mut usize,
     blocked: &mut LoanNumbers,
-    failed: Option<&mut Option<SendError>>,
 ) -> u32
     ensures { SendReturns numbers.now service.old service.new receivers.old receivers.new blocked.old blocked.new result }
 {
@@ -127,9 +108,6 @@ fn send_named(
         return PUBLISHER_IS_BLOCKED;
     }
     let sent = loan.send(&mut service.domain);
-    if let Some(failed) = failed {
-        *failed = error_of(&sent);
-    }
     tell_of(sent, numbers, receivers, blocked)
 }
 
@@ -141,24 +119,52 @@ fn send_elsewhere(
     numbers: &LoanNumbers,
     receivers: &mut usize,
     blocked: &mut LoanNumbers,
-    failed: Option<&mut Option<SendError>>,
 ) -> u32
     ensures { SendReturns numbers.now service.old service.new receivers.old receivers.new blocked.old blocked.new result }
 {
-    send_named(service, numbers, numbers.book, receivers, blocked, failed)
+    send_named(service, numbers, numbers.book, receivers, blocked)
 }
 
-// Records the bytes of a loan that is out, unless a send of its publisher waits: the loan isn't sent then.
-pub(crate) fn record_bytes(service: &mut Service, numbers: &LoanNumbers)
-    ensures { service.new ≡ service.old }
+// The same, and it is recorded.
+#[cold]
+#[inline(never)]
+fn send_recorded(
+    service: &mut Service,
+    numbers: &LoanNumbers,
+    receivers: &mut usize,
+    blocked: &mut LoanNumbers,
+) -> u32
+    ensures { SendReturns numbers.now service.old service.new receivers.old receivers.new blocked.old blocked.new result }
 {
-    if let Some(loan) = written_loan(&service.domain, numbers, numbers.book) {
-        if !loan.is_blocked(&service.domain) {
-            let bytes = loan.payload(&service.domain);
-            service.recording.written(numbers, bytes);
-        }
+    let mut failed = None;
+    let code = send_with_bytes(service, numbers, receivers, blocked, &mut failed);
+    service.recording.sent(numbers, code, *receivers, failed);
+    code
+}
+
+// The same, of which the bytes are recorded where it is sent, and why it failed, if it did.
+#[inline(always)]
+fn send_with_bytes(
+    service: &mut Service,
+    numbers: &LoanNumbers,
+    receivers: &mut usize,
+    blocked: &mut LoanNumbers,
+    failed: &mut Option<SendError>,
+) -> u32
+    ensures { SendReturns numbers.now service.old service.new receivers.old receivers.new blocked.old blocked.new result }
+{
+    let Some(loan) = written_loan(&service.domain, numbers, numbers.book) else {
+        return NOT_LIVE;
+    };
+    if loan.is_blocked(&service.domain) {
         loan.disown();
+        return PUBLISHER_IS_BLOCKED;
     }
+    let bytes = loan.payload(&service.domain);
+    service.recording.written(numbers, bytes);
+    let sent = loan.send(&mut service.domain);
+    *failed = error_of(&sent);
+    tell_of(sent, numbers, receivers, blocked)
 }
 
 /// Sends a copy of the bytes, and says how many subscribers took it.

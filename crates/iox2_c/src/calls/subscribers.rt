@@ -271,7 +271,11 @@ fn receive_recorded(
 fn record_sample(service: &mut Service, numbers: &SampleNumbers)
     ensures { service.new ≡ service.old }
 {
-    if let Some(sample) = samples::live_sample(&service.domain, numbers) {
+    let sample = match samples::sample_at_hint(&mut service.domain, numbers) {
+        Some(sample) => Some(sample),
+        None => samples::live_sample(&service.domain, numbers),
+    };
+    if let Some(sample) = sample {
         let bytes = sample.payload(&service.domain);
         service.recording.received(&sample, bytes);
         sample.disown();
