@@ -34,7 +34,8 @@ returns c = record {
             (wide c.args.numbers.now.id) c.args.channel c.args.expected)
             (sym (ap (λ (s : Inside). s.domain) w.service-inside-is))
             (moved (λ k p. ChangesTo k w.set_disconnect_hint.new.domain
-            (λ s. received_hinted s p c.args.channel c.args.expected)) c.service.inside.domain c.args.service.now.domain _
+            (λ s. received_hinted s p c.args.channel c.args.expected)) c.service.inside.domain c.args.service.now.domain
+            _
             (wide c.args.numbers.now.id) (ap (λ (s : Serving). s.domain) c.service.view_is)
             (ap (λ (it : Subscriber). it.id) w.deref-in-Hint.ensures ∙ c.in-Ok.ensures.id)
             w.set_disconnect_hint.ensures.hinted))
