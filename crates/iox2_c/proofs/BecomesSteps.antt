@@ -1,7 +1,7 @@
 -- What a call does to the domain that C owns.
-use Rattle.std.proofs.Common.{◌≡◌, ◌≤◌, ℕ, sym, subst, arith}
+use Rattle.std.proofs.Common.{◌≡◌, ◌≤◌, ◌∙◌, ℕ, sym, subst, arith}
 use Rattle.std.specs.declared.option.Option.{Option}
-use Rattle.std.specs.declared.option.Option.TheVariants.{Some}
+use Rattle.std.specs.declared.option.Option.TheVariants.{None, Some}
 use Rattle.std.specs.declared.result.Result.{Result}
 use Rattle.iox2_machine.specs.declared.errors.ConnectionFailure.{ConnectionFailure}
 use Rattle.iox2_machine.specs.declared.errors.LoanError.{LoanError}
@@ -11,10 +11,11 @@ use Rattle.iox2_machine.specs.declared.errors.ReceiveError.{ReceiveError}
 use Rattle.iox2_machine.specs.declared.errors.ReceiveError.TheVariants.{ExceedsMaxBorrows}
 use Rattle.iox2_machine.specs.declared.errors.ReceiveError.TheVariants.{ConnectionFailure as Not_connected}
 use Rattle.iox2_machine.specs.machine.Receives.{ReceiveResult}
-use Rattle.iox2_c.specs.Boxed.{Becomes, HoldsFromOldToNew}
+use Rattle.iox2_c.specs.Boxed.{Becomes, HoldsFromOldToNew, Lifted}
 use Rattle.iox2_c.specs.Codes.{code_of, failure_code, loan_code, receive_code}
 use Rattle.iox2_c.specs.Serving.{KeptBytes, Serving}
 use Rattle.iox2_c.specs.Steps.{SubscriberReceives}
+use Rattle.iox2_c.specs.declared.status.TheConstants.{NO_DOMAIN}
 
 -- a domain that is changed in its box
 pub becomes : (P : KeptBytes → KeptBytes → Type 0) (old new : Option Serving) (a b : Serving) → old ≡ Some a
@@ -25,6 +26,18 @@ becomes P old new a b was is step = subst (λ (o : Option Serving). Becomes P o 
 pub turns : (P : Serving → Serving → Type 0) (old new : Option Serving) (a b : Serving) → old ≡ Some a → new ≡ Some b
     → P a b → HoldsFromOldToNew P old new
 turns P old new a b was is step = subst (λ (o : Option Serving). HoldsFromOldToNew P o new) (sym was) (b, is, step)
+
+-- what a call does to a domain, it does where that is in its box
+pub lifted : (Stays : Type 0) (Returns : Serving → Serving → Type 0) (old new : Option Serving) (a b : Serving)
+    (code : ℕ) → old ≡ Some a → new ≡ Some b → Returns a b → Lifted Stays Returns old new code
+lifted Stays Returns old new a b code was is returns =
+    subst (λ (o : Option Serving). Lifted Stays Returns o new code) (sym was) (b, is, returns)
+
+-- and without a domain it does nothing
+pub unlifted : (Stays : Type 0) (Returns : Serving → Serving → Type 0) (old new : Option Serving) (code : ℕ)
+    → old ≡ None → code ≡ NO_DOMAIN → new ≡ old → Stays → Lifted Stays Returns old new code
+unlifted Stays Returns old new code was is same stays =
+    subst (λ (o : Option Serving). Lifted Stays Returns o new code) (sym was) (is, same ∙ was, stays)
 
 -- a step in the domain that was opened, by a port's id, is one in the domain, by its numbers
 pub moved : (Step : KeptBytes → ℕ → Type 0) (inside old : KeptBytes) (q p : ℕ) → inside ≡ old → q ≡ p → Step inside q

@@ -1,9 +1,10 @@
 -- What C knows of the domain that it owns, if it has one.
-use Rattle.std.specs.Prelude.{◌≡◌, IfSome}
+use Rattle.std.specs.Prelude.{ℕ, ◌≡◌, IfSome}
 use Rattle.std.specs.declared.option.Option.{Option}
 use Rattle.std.specs.declared.option.Option.TheVariants.{None, Some}
 use Rattle.iox2_pubsub.specs.Live.{Item}
 use Rattle.iox2_c.specs.Serving.{KeptBytes, Serving, ServesBut}
+use Rattle.iox2_c.specs.declared.status.TheConstants.{NO_DOMAIN}
 
 -- This is so of the domain, which is there.
 abbrev pub Knows : (KeptBytes → Type 0) → Option Serving → Type 0
@@ -28,3 +29,10 @@ HoldsFromOldToNew P (Some old) new = (it : Serving) × (new ≡ Some it) × P ol
 abbrev pub HoldsOn : Item → (old new : Option Serving) → Type 0
 HoldsOn item None new = new ≡ None
 HoldsOn item (Some old) new = (it : Serving) × (new ≡ Some it) × ServesBut item old it
+
+-- The call did this to the domain. Where there is none it returned the code for that, there still is none, and what it
+-- would have told is as it was.
+abbrev pub Lifted : (Stays : Type 0) (Returns : Serving → Serving → Type 0) (old new : Option Serving) (code : ℕ)
+    → Type 0
+Lifted Stays Returns None new code = (code ≡ NO_DOMAIN) × (new ≡ None) × Stays
+Lifted Stays Returns (Some old) new code = (it : Serving) × (new ≡ Some it) × Returns old it

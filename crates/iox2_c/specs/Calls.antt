@@ -12,6 +12,7 @@ use Rattle.iox2_pubsub.specs.Live.{HasMark, IsLoanKey, IsNewIn, IsPublisherKey, 
 use Rattle.iox2_pubsub.specs.Live.{publisher_port}
 use Rattle.iox2_c.specs.Serving.{KeptBytes}
 use Rattle.iox2_c.specs.Steps.{CreatesPublisher}
+use Rattle.iox2_c.specs.declared.status.TheConstants.{NOT_LIVE, PUBLISHER_IS_BLOCKED}
 
 -- ---- creations and loans
 
@@ -35,8 +36,7 @@ abbrev pub loan_made : {A : Type 0} → Result A LoanError → Result (Unit {0})
 loan_made (Ok it) = Ok tt
 loan_made (Err error) = Err error
 
--- ---- refusals, which change nothing: 2 where nothing live is named, and 7 where an earlier send of the publisher
--- waits
+-- ---- refusals, which change nothing
 
 module _ (domain : KeptBytes) (key : Key) where
   -- The publisher is there, and no send of it waits.
@@ -47,8 +47,8 @@ module _ (domain : KeptBytes) (key : Key) where
   -- Why a call of a publisher is refused with this code.
   abbrev pub RefusesPublisher : (code : ℕ) → Type 0
   RefusesPublisher code =
-      ((code ≡ 2) × (IsPublisherKey domain key → ⊥))
-      ⊎ ((code ≡ 7) × IsPublisherKey domain key × (IsUnblocked domain key → ⊥))
+      ((code ≡ NOT_LIVE) × (IsPublisherKey domain key → ⊥))
+      ⊎ ((code ≡ PUBLISHER_IS_BLOCKED) × IsPublisherKey domain key × (IsUnblocked domain key → ⊥))
 
   -- The loan is out and written, as each one is that was lent by these calls.
   pub record IsOut : Type 0 where
@@ -57,8 +57,9 @@ module _ (domain : KeptBytes) (key : Key) where
 
   -- Why a call of a loan is refused with this code.
   abbrev pub IsRefusedLoan : (code : ℕ) → Type 0
-  IsRefusedLoan code = (code ≡ 2) × (IsOut → ⊥)
+  IsRefusedLoan code = (code ≡ NOT_LIVE) × (IsOut → ⊥)
 
   -- Why a send of a loan is refused with this code.
   abbrev pub RefusesSend : (code : ℕ) → Type 0
-  RefusesSend code = ((code ≡ 2) × (IsOut → ⊥)) ⊎ ((code ≡ 7) × IsOut × (IsUnblocked domain key → ⊥))
+  RefusesSend code =
+      ((code ≡ NOT_LIVE) × (IsOut → ⊥)) ⊎ ((code ≡ PUBLISHER_IS_BLOCKED) × IsOut × (IsUnblocked domain key → ⊥))

@@ -16,27 +16,28 @@ use Rattle.iox2_c.specs.Serving.{KeptBytes}
 use Rattle.iox2_c.specs.Steps.{BytesState, StepsTo}
 use Rattle.iox2_c.specs.declared.calls.channel_changes.ReceivedChange.{ReceivedChange}
 use Rattle.iox2_c.specs.declared.calls.channel_changes.ReceivedChange.TheVariants.{Close, Hint}
+use Rattle.iox2_c.specs.declared.status.TheConstants.{NOT_LIVE, NO_SUCH_CHANNEL, OK}
 
--- ---- refusals, which change nothing: 2 where no live port is named, and 70 where there is no channel with the number
+-- ---- refusals, which change nothing
 
 module _ (domain : KeptBytes) (key : Key) (channel : ℕ) where
   -- Why a publisher's call on a channel is refused with this code.
   abbrev pub RefusesPublisherChannel : (code : ℕ) → Type 0
-  RefusesPublisherChannel code = ((code ≡ 2) × (IsPublisherKey domain key → ⊥))
-      ⊎ ((code ≡ 70) × IsPublisherKey domain key × (channel_count domain.config ≤ channel))
+  RefusesPublisherChannel code = ((code ≡ NOT_LIVE) × (IsPublisherKey domain key → ⊥))
+      ⊎ ((code ≡ NO_SUCH_CHANNEL) × IsPublisherKey domain key × (channel_count domain.config ≤ channel))
 
   -- Why a subscriber's is.
   abbrev pub RefusesSubscriberChannel : (code : ℕ) → Type 0
-  RefusesSubscriberChannel code = ((code ≡ 2) × (IsSubscriberKey domain key → ⊥))
-      ⊎ ((code ≡ 70) × IsSubscriberKey domain key × (channel_count domain.config ≤ channel))
+  RefusesSubscriberChannel code = ((code ≡ NOT_LIVE) × (IsSubscriberKey domain key → ⊥))
+      ⊎ ((code ≡ NO_SUCH_CHANNEL) × IsSubscriberKey domain key × (channel_count domain.config ≤ channel))
 
-  -- A publisher's call on a channel is answered with this code: 0 where it is there, and else why it is refused.
+  -- A publisher's call on a channel is answered with this code: OK where it is there, and else why it is refused.
   abbrev pub AnswersPublisherChannel : (code : ℕ) → Type 0
-  AnswersPublisherChannel code = ((code ≡ 0) × IsPublisherKey domain key) ⊎ RefusesPublisherChannel code
+  AnswersPublisherChannel code = ((code ≡ OK) × IsPublisherKey domain key) ⊎ RefusesPublisherChannel code
 
   -- A subscriber's is.
   abbrev pub AnswersSubscriberChannel : (code : ℕ) → Type 0
-  AnswersSubscriberChannel code = ((code ≡ 0) × IsSubscriberKey domain key) ⊎ RefusesSubscriberChannel code
+  AnswersSubscriberChannel code = ((code ≡ OK) × IsSubscriberKey domain key) ⊎ RefusesSubscriberChannel code
 
 -- ---- answers
 

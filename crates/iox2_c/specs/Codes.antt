@@ -35,8 +35,12 @@ use Rattle.iox2_machine.specs.declared.errors.SubscriberCreateError.{SubscriberC
 use Rattle.iox2_machine.specs.declared.errors.SubscriberCreateError.TheVariants as subscriber
 use Rattle.iox2_pubsub.specs.declared.send_outcome.SendOutcome.{SendOutcome}
 use Rattle.iox2_pubsub.specs.declared.send_outcome.SendOutcome.TheVariants.{Delivered, Blocked}
+use Rattle.iox2_c.specs.declared.status.TheConstants.{BLOCKED, OK}
 
--- ---- errors
+-- ---- errors: the codes from this one on, up to those of settings, name one
+
+abbrev pub first_error_code : ℕ
+first_error_code = 10
 
 -- The code of a loan's error.
 abbrev pub loan_code : LoanError → ℕ
@@ -84,9 +88,9 @@ subscriber_code subscriber.BufferSizeExceedsMaxSupportedBufferSizeOfService = 61
 subscriber_code subscriber.FailedToDeployThreadsafetyPolicy = 62
 subscriber_code subscriber.UnableToCreatePortTag = 63
 
--- 0 where the call did what it is to do, and else the error's code.
+-- OK where the call did what it is to do, and else the error's code.
 abbrev pub code_of : {A E : Type 0} → (E → ℕ) → Result A E → ℕ
-code_of code (Ok value) = 0
+code_of code (Ok value) = OK
 code_of code (Err error) = code error
 
 -- ---- settings
@@ -164,10 +168,10 @@ worst_case_too_large = 89
 
 -- ---- sends
 
--- 0 where every receiver had the message, 6 where the send waits, and else the error's code.
+-- OK where every receiver had the message, BLOCKED where the send waits, and else the error's code.
 abbrev pub sent_code : Result SendOutcome SendError → ℕ
-sent_code (Ok (Delivered count)) = 0
-sent_code (Ok (Blocked blocked)) = 6
+sent_code (Ok (Delivered count)) = OK
+sent_code (Ok (Blocked blocked)) = BLOCKED
 sent_code (Err error) = send_code error
 
 -- How many subscribers took the message, where the send has ended well, and else what was there.

@@ -12,3 +12,4 @@ pub mod Steps
 pub mod Returns
 pub mod Channels
 pub mod ConnectionSends
+pub mod ChannelReturns

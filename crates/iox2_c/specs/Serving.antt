@@ -4,7 +4,7 @@ use Rattle.iox2_machine.specs.declared.service_config.TypeVariant.TheVariants.{D
 use Rattle.iox2_domain.specs.Kept.{Kept}
 use Rattle.iox2_pubsub.specs.Live.{Item, StaysBut}
 use Rattle.iox2_pubsub.specs.Slices.{HoldsSlices}
-use Rattle.iox2_c.specs.declared.handlers.NoHandler.{NoHandler}
+use Rattle.iox2_pubsub.specs.declared.no_handler.NoHandler.{NoHandler}
 
 -- What a domain of bytes keeps: no user headers, and no boxes of handlers.
 abbrev pub KeptBytes : Type 0

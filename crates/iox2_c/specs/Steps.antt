@@ -6,6 +6,7 @@ use Rattle.std.specs.declared.result.Result.TheVariants.{Err, Ok}
 use Rattle.std.specs.declared.time.Duration.{Duration}
 use Rattle.core.specs.Duration.{as_nanos}
 use Rattle.iox2_machine.specs.declared.backpressure.BackpressureAction.TheVariants.{DiscardData}
+use Rattle.iox2_machine.specs.declared.degradation.DegradationAction.TheVariants.{Ignore}
 use Rattle.iox2_machine.specs.declared.errors.ConnectionFailure.{ConnectionFailure}
 use Rattle.iox2_machine.specs.declared.errors.LoanError.{LoanError}
 use Rattle.iox2_machine.specs.declared.errors.PublisherCreateError.{PublisherCreateError}
@@ -47,12 +48,12 @@ BytesState = State ℕ (Unit {0})
 -- What the boxes of a domain's publishers answer. There are no such boxes.
 abbrev pub publishers_answer : KeptBytes → Environment
 publishers_answer domain = answers_of (λ handler info action. action ≡ DiscardData)
-    (λ handler cause info action. Unit {0}) (domain.boxes).publishers
+    (λ handler cause info action. action ≡ Ignore) (domain.boxes).publishers
 
 -- The same of its subscribers.
 abbrev pub subscribers_answer : KeptBytes → Environment
 subscribers_answer domain = answers_of (λ handler info action. action ≡ DiscardData)
-    (λ handler cause info action. Unit {0}) (domain.boxes).subscribers
+    (λ handler cause info action. action ≡ Ignore) (domain.boxes).subscribers
 
 module _ (old new : KeptBytes) where
   -- From each state that the domain showed there is such a step to one that it shows now, and the messages are the

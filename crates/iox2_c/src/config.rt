@@ -122,7 +122,7 @@ impl Config {
     /// them all.
     pub fn first_invalid(&self) -> u32
         ensures first { result ≡ invalid_setting self.now }
-        ensures range { (result ≡ 0) ⊎ ((first_setting_code ≤ result) × (result < worst_case_too_large)) }
+        ensures range { (result ≡ OK) ⊎ ((first_setting_code ≤ result) × (result < worst_case_too_large)) }
     {
         if self.struct_size != CONFIG_SIZE {
             return INVALID_STRUCT_SIZE;

@@ -10,7 +10,6 @@ mod calls;
 mod config;
 mod domain_box;
 mod exports;
-mod handlers;
 mod loose;
 mod numbers;
 mod options;

@@ -5,19 +5,17 @@ ghost use Rattle.iox2_machine.specs.machine.Records.{Fixed};
 ghost use Rattle.iox2_connections.specs.Handlers.{marks_of};
 ghost use Rattle.iox2_pubsub.specs.Factories.{answer_of};
 ghost use Rattle.iox2_c.specs.Codes.{allocation_numbered, degradation_numbered, first_setting_code, handler_numbered, worst_case_too_large};
-ghost use Rattle.iox2_c.specs.Settings.{invalid_publisher_option, invalid_subscriber_option, publisher_options_size};
-ghost use Rattle.iox2_c.specs.Settings.{settings_of_options, settings_of, subscriber_options_size};
-ghost use Rattle.iox2_c.specs.Settings.{subscriber_settings};
+ghost use Rattle.iox2_c.specs.Settings.{invalid_publisher_option, invalid_subscriber_option, publisher_options_size, settings_of_options};
+ghost use Rattle.iox2_c.specs.Settings.{settings_of, subscriber_options_size, subscriber_settings};
 
 use crate::config::Config;
-use crate::handlers::NoHandler;
 use crate::status::{
     INVALID_ALLOCATION_STRATEGY, INVALID_BACKPRESSURE_HANDLER, INVALID_BACKPRESSURE_STRATEGY,
     INVALID_DEGRADATION, INVALID_INITIAL_MAX_SLICE_LEN, INVALID_RESERVED, INVALID_STRUCT_SIZE, OK,
 };
 use iox2_pubsub::{
     AllocationStrategy, BackpressureAction, BackpressureHandler, DegradationAction,
-    DegradationHandler,
+    DegradationHandler, NoHandler,
 };
 
 /// How many bytes the options of a publisher have.
@@ -72,7 +70,7 @@ impl PublisherOptions {
     /// fields; 0 if one can have them all.
     pub fn first_invalid(&self, alignment: usize) -> u32
         ensures first { result ≡ invalid_publisher_option alignment self.now }
-        ensures range { (result ≡ 0) ⊎ ((first_setting_code ≤ result) × (result < worst_case_too_large)) }
+        ensures range { (result ≡ OK) ⊎ ((first_setting_code ≤ result) × (result < worst_case_too_large)) }
     {
         if self.struct_size != PUBLISHER_OPTIONS_SIZE {
             return INVALID_STRUCT_SIZE;
@@ -156,7 +154,7 @@ impl SubscriberOptions {
     /// them all.
     pub fn first_invalid(&self) -> u32
         ensures first { result ≡ invalid_subscriber_option self.now }
-        ensures range { (result ≡ 0) ⊎ ((first_setting_code ≤ result) × (result < worst_case_too_large)) }
+        ensures range { (result ≡ OK) ⊎ ((first_setting_code ≤ result) × (result < worst_case_too_large)) }
     {
         if self.struct_size != SUBSCRIBER_OPTIONS_SIZE {
             return INVALID_STRUCT_SIZE;

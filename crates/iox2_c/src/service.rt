@@ -1,13 +1,12 @@
 //! A domain whose messages are bytes.
 
 use crate::config::Config;
-use crate::handlers::NoHandler;
 use crate::recording::{Recording, Room};
-use iox2_pubsub::Domain;
+use iox2_pubsub::{Domain, NoHandler};
 use std::alloc::Global;
 use std::marker::Model;
 
-/// A domain whose messages are slices of bytes, and whose publishers have handlers of no size.
+/// A domain whose messages are slices of bytes, and whose ports have no handlers of their own.
 pub type BytesDomain = Domain<u8, (), NoHandler, NoHandler>;
 
 /// A domain of bytes, and what its ports have where nothing else is said.

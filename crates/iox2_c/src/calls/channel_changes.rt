@@ -1,9 +1,5 @@
 //! What ports change at the channels of their connections.
-ghost use Rattle.std.specs.Prelude.{◌≡◌, ◌<◌};
-ghost use Rattle.iox2_pubsub.specs.Live.{No_item};
-ghost use Rattle.iox2_c.specs.Channels.{AnswersPublisherChannel, AnswersSubscriberChannel, ChangesReceived, ClosesSent, SetsState};
-ghost use Rattle.iox2_c.specs.Numbers.{named_publisher, named_subscriber, wide};
-ghost use Rattle.iox2_c.specs.Serving.{ServesBut};
+ghost use Rattle.iox2_c.specs.ChannelReturns.{ChangeReturns, CloseReturns, SetStateReturns};
 
 use crate::calls::channels::{publisher_with_channel, subscriber_with_channel};
 use crate::calls::questions::number_of;
@@ -21,28 +17,52 @@ pub fn set_state(
     state: u64,
     were_closed: &mut u32,
 ) -> u32
-    ensures code { AnswersSubscriberChannel service.old.domain (named_subscriber numbers.now) channel result }
-    ensures sets { result ≡ 0 → SetsState service.old.domain service.new.domain (wide (numbers.now).id) channel state were_closed.new }
-    ensures refused { 0 < result → service.new ≡ service.old }
-    ensures same { 0 < result → were_closed.new ≡ were_closed.old }
-    ensures stays { ServesBut No_item service.old service.new }
+    ensures { SetStateReturns numbers.now channel state service.old service.new were_closed.old were_closed.new result }
 {
+    if service.recording.is_on() {
+        return set_state_recorded(service, numbers, channel, state, were_closed);
+    }
+    set_state_unrecorded(service, numbers, channel, state, were_closed)
+}
+
+// The same, and it is recorded.
+#[cold]
+#[inline(never)]
+fn set_state_recorded(
+    service: &mut Service,
+    numbers: &SubscriberNumbers,
+    channel: usize,
+    state: u64,
+    were_closed: &mut u32,
+) -> u32
+    ensures { SetStateReturns numbers.now channel state service.old service.new were_closed.old were_closed.new result }
+{
+    let code = set_state_unrecorded(service, numbers, channel, state, were_closed);
     let call = SubscriberChannelCall::SetState { state };
+    service
+        .recording
+        .subscriber_channel(numbers, channel, call, code, *were_closed);
+    code
+}
+
+// The same, and it isn't. It is inlined in neither: what it calls is then called in one place, and inlined.
+#[inline(never)]
+fn set_state_unrecorded(
+    service: &mut Service,
+    numbers: &SubscriberNumbers,
+    channel: usize,
+    state: u64,
+    were_closed: &mut u32,
+) -> u32
+    ensures { SetStateReturns numbers.now channel state service.old service.new were_closed.old were_closed.new result }
+{
     let subscriber = match subscriber_with_channel(&service.domain, numbers, channel) {
         Ok(subscriber) => subscriber,
-        Err(code) => {
-            service
-                .recording
-                .subscriber_channel(numbers, channel, call, code, false);
-            return code;
-        }
+        Err(code) => return code,
     };
     let answer = subscriber.set_channel_state(&mut service.domain, channel, state);
     subscriber.disown();
     *were_closed = number_of(answer);
-    service
-        .recording
-        .subscriber_channel(numbers, channel, call, OK, answer);
     OK
 }
 
@@ -73,19 +93,48 @@ pub fn change_received(
     channel: usize,
     expected: u64,
 ) -> u32
-    ensures code { AnswersSubscriberChannel service.old.domain (named_subscriber numbers.now) channel result }
-    ensures changes { result ≡ 0 → ChangesReceived service.old.domain service.new.domain change (wide (numbers.now).id) channel expected }
-    ensures refused { 0 < result → service.new ≡ service.old }
-    ensures stays { ServesBut No_item service.old service.new }
+    ensures { ChangeReturns numbers.now change channel expected service.old service.new result }
+{
+    if service.recording.is_on() {
+        return change_received_recorded(service, numbers, change, channel, expected);
+    }
+    change_received_unrecorded(service, numbers, change, channel, expected)
+}
+
+// The same, and it is recorded.
+#[cold]
+#[inline(never)]
+fn change_received_recorded(
+    service: &mut Service,
+    numbers: &SubscriberNumbers,
+    change: ReceivedChange,
+    channel: usize,
+    expected: u64,
+) -> u32
+    ensures { ChangeReturns numbers.now change channel expected service.old service.new result }
+{
+    let code = change_received_unrecorded(service, numbers, change, channel, expected);
+    let call = change.call(expected);
+    service
+        .recording
+        .subscriber_channel(numbers, channel, call, code, 0);
+    code
+}
+
+// The same, and it isn't. It is inlined in neither: what it calls is then called in one place, and inlined.
+#[inline(never)]
+fn change_received_unrecorded(
+    service: &mut Service,
+    numbers: &SubscriberNumbers,
+    change: ReceivedChange,
+    channel: usize,
+    expected: u64,
+) -> u32
+    ensures { ChangeReturns numbers.now change channel expected service.old service.new result }
 {
     let subscriber = match subscriber_with_channel(&service.domain, numbers, channel) {
         Ok(subscriber) => subscriber,
-        Err(code) => {
-            service
-                .recording
-                .subscriber_channel(numbers, channel, change.call(expected), code, false);
-            return code;
-        }
+        Err(code) => return code,
     };
     let domain = &mut service.domain;
     match change {
@@ -93,9 +142,6 @@ pub fn change_received(
         ReceivedChange::Hint => subscriber.set_disconnect_hint(domain, channel, expected),
     }
     subscriber.disown();
-    service
-        .recording
-        .subscriber_channel(numbers, channel, change.call(expected), OK, false);
     OK
 }
 
@@ -107,25 +153,50 @@ pub fn close_sent(
     connection: usize,
     expected: u64,
 ) -> u32
-    ensures code { AnswersPublisherChannel service.old.domain (named_publisher numbers.now) channel result }
-    ensures closes { result ≡ 0 → ClosesSent service.old.domain service.new.domain (wide (numbers.now).id) channel connection expected }
-    ensures refused { 0 < result → service.new ≡ service.old }
-    ensures stays { ServesBut No_item service.old service.new }
+    ensures { CloseReturns numbers.now channel connection expected service.old service.new result }
 {
+    if service.recording.is_on() {
+        return close_sent_recorded(service, numbers, channel, connection, expected);
+    }
+    close_sent_unrecorded(service, numbers, channel, connection, expected)
+}
+
+// The same, and it is recorded.
+#[cold]
+#[inline(never)]
+fn close_sent_recorded(
+    service: &mut Service,
+    numbers: &PublisherNumbers,
+    channel: usize,
+    connection: usize,
+    expected: u64,
+) -> u32
+    ensures { CloseReturns numbers.now channel connection expected service.old service.new result }
+{
+    let code = close_sent_unrecorded(service, numbers, channel, connection, expected);
     let call = PublisherChannelCall::Close { expected };
+    service
+        .recording
+        .publisher_channel(numbers, channel, connection, call, code, 0);
+    code
+}
+
+// The same, and it isn't. It is inlined in neither: what it calls is then called in one place, and inlined.
+#[inline(never)]
+fn close_sent_unrecorded(
+    service: &mut Service,
+    numbers: &PublisherNumbers,
+    channel: usize,
+    connection: usize,
+    expected: u64,
+) -> u32
+    ensures { CloseReturns numbers.now channel connection expected service.old service.new result }
+{
     let publisher = match publisher_with_channel(&service.domain, numbers, channel) {
         Ok(publisher) => publisher,
-        Err(code) => {
-            service
-                .recording
-                .publisher_channel(numbers, channel, connection, call, code, false);
-            return code;
-        }
+        Err(code) => return code,
     };
     publisher.close_channel(&mut service.domain, channel, connection, expected);
     publisher.disown();
-    service
-        .recording
-        .publisher_channel(numbers, channel, connection, call, OK, false);
     OK
 }

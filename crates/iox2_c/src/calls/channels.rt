@@ -1,11 +1,10 @@
 //! What ports ask about the channels of their connections.
-ghost use Rattle.std.specs.Prelude.{◌≡◌, ◌<◌, ◌↔◌, ◌⊎◌, IfErr, IfNone, IfOk, IfSome, IsTrue, None, Some};
+ghost use Rattle.std.specs.Prelude.{◌≡◌, ◌<◌, ◌↔◌, IfErr, IfNone, IfOk, IfSome, IsTrue};
 ghost use Rattle.iox2_machine.specs.machine.Limits.{channel_count};
 ghost use Rattle.iox2_pubsub.specs.Handles.{as_subscriber, publisher_id, subscriber_id};
 ghost use Rattle.iox2_pubsub.specs.Live.{IsLiveSubscriber, IsPlacedPublisher, IsPublisherKey, publisher_key, subscriber_key};
-ghost use Rattle.iox2_c.specs.Channels.{AnswersPublisherChannel, AnswersSubscriberChannel, RefusesPublisherChannel};
-ghost use Rattle.iox2_c.specs.Channels.{RefusesSubscriberChannel, TellsConnection, TellsHint, TellsSomeState};
-ghost use Rattle.iox2_c.specs.Channels.{TellsState};
+ghost use Rattle.iox2_c.specs.Channels.{RefusesPublisherChannel, RefusesSubscriberChannel};
+ghost use Rattle.iox2_c.specs.ChannelReturns.{ConnectionReturns, HintReturns, SomeStateReturns, StateReturns};
 ghost use Rattle.iox2_c.specs.Numbers.{named_publisher, named_subscriber, wide};
 
 use crate::calls::questions::number_of;
@@ -20,7 +19,7 @@ use iox2_pubsub::{Publisher, slice};
 pub fn has_channel(domain: &BytesDomain, channel: usize) -> bool
     ensures { IsTrue result ↔ (channel < channel_count domain.now.config) }
 {
-    channel < domain.config().number_of_channels.max(1)
+    channel < domain.config().number_of_channels || channel == 0
 }
 
 /// A handle of the subscriber with these numbers, whose connections have this channel, or the code that says
@@ -88,27 +87,52 @@ pub fn some_has_state(
     state: u64,
     out: &mut u32,
 ) -> u32
-    ensures code { AnswersSubscriberChannel service.old.domain (named_subscriber numbers.now) channel result }
-    ensures tells { result ≡ 0 → TellsSomeState service.old.domain (wide (numbers.now).id) channel state out.new }
-    ensures same { 0 < result → out.new ≡ out.old }
-    ensures unchanged { service.new ≡ service.old }
+    ensures { SomeStateReturns numbers.now channel state service.old service.new out.old out.new result }
 {
+    if service.recording.is_on() {
+        return some_has_state_recorded(service, numbers, channel, state, out);
+    }
+    some_has_state_unrecorded(service, numbers, channel, state, out)
+}
+
+// The same, and it is recorded.
+#[cold]
+#[inline(never)]
+fn some_has_state_recorded(
+    service: &mut Service,
+    numbers: &SubscriberNumbers,
+    channel: usize,
+    state: u64,
+    out: &mut u32,
+) -> u32
+    ensures { SomeStateReturns numbers.now channel state service.old service.new out.old out.new result }
+{
+    let code = some_has_state_unrecorded(service, numbers, channel, state, out);
     let call = SubscriberChannelCall::SomeHasState { state };
+    service
+        .recording
+        .subscriber_channel(numbers, channel, call, code, *out);
+    code
+}
+
+// The same, and it isn't. It is inlined in neither: what it calls is then called in one place, and inlined.
+#[inline(never)]
+fn some_has_state_unrecorded(
+    service: &mut Service,
+    numbers: &SubscriberNumbers,
+    channel: usize,
+    state: u64,
+    out: &mut u32,
+) -> u32
+    ensures { SomeStateReturns numbers.now channel state service.old service.new out.old out.new result }
+{
     let subscriber = match subscriber_with_channel(&service.domain, numbers, channel) {
         Ok(subscriber) => subscriber,
-        Err(code) => {
-            service
-                .recording
-                .subscriber_channel(numbers, channel, call, code, false);
-            return code;
-        }
+        Err(code) => return code,
     };
     let is_so = subscriber.at_least_one_channel_has_state(&service.domain, channel, state);
     subscriber.disown();
     *out = number_of(is_so);
-    service
-        .recording
-        .subscriber_channel(numbers, channel, call, OK, is_so);
     OK
 }
 
@@ -119,31 +143,52 @@ pub fn connection_of(
     receiver: &Wide,
     out: &mut usize,
 ) -> u32
-    ensures code { (result ≡ 0) ⊎ ((result ≡ 2) × (IsPublisherKey service.old.domain (named_publisher numbers.now) → ⊥)) ⊎ (result ≡ 71) }
-    ensures live { (result ≡ 2 → ⊥) → IsPublisherKey service.old.domain (named_publisher numbers.now) }
-    ensures tells { result ≡ 0 → TellsConnection service.old.domain (wide (numbers.now).id) (wide receiver.now) (Some out.new) }
-    ensures none { result ≡ 71 → TellsConnection service.old.domain (wide (numbers.now).id) (wide receiver.now) None }
-    ensures same { 0 < result → out.new ≡ out.old }
-    ensures unchanged { service.new ≡ service.old }
+    ensures { ConnectionReturns numbers.now receiver.now service.old service.new out.old out.new result }
 {
-    let id = receiver.get();
+    if service.recording.is_on() {
+        return connection_of_recorded(service, numbers, receiver, out);
+    }
+    connection_of_unrecorded(service, numbers, receiver, out)
+}
+
+// The same, and it is recorded.
+#[cold]
+#[inline(never)]
+fn connection_of_recorded(
+    service: &mut Service,
+    numbers: &PublisherNumbers,
+    receiver: &Wide,
+    out: &mut usize,
+) -> u32
+    ensures { ConnectionReturns numbers.now receiver.now service.old service.new out.old out.new result }
+{
+    let code = connection_of_unrecorded(service, numbers, receiver, out);
+    service
+        .recording
+        .connection(numbers, receiver.get(), code, *out);
+    code
+}
+
+// The same, and it isn't.
+#[inline(always)]
+fn connection_of_unrecorded(
+    service: &mut Service,
+    numbers: &PublisherNumbers,
+    receiver: &Wide,
+    out: &mut usize,
+) -> u32
+    ensures { ConnectionReturns numbers.now receiver.now service.old service.new out.old out.new result }
+{
     let Some(publisher) = live_publisher(&service.domain, numbers) else {
-        service.recording.connection(numbers, id, NOT_LIVE, 0);
         return NOT_LIVE;
     };
-    let place = publisher.get_connection_id_of(&service.domain, id);
+    let place = publisher.get_connection_id_of(&service.domain, receiver.get());
     publisher.disown();
-    match place {
-        Some(place) => {
-            *out = place;
-            service.recording.connection(numbers, id, OK, place);
-            OK
-        }
-        None => {
-            service.recording.connection(numbers, id, NO_CONNECTION, 0);
-            NO_CONNECTION
-        }
-    }
+    let Some(place) = place else {
+        return NO_CONNECTION;
+    };
+    *out = place;
+    OK
 }
 
 /// Whether a channel is in a state at one connection of a publisher.
@@ -155,27 +200,54 @@ pub fn has_state(
     state: u64,
     out: &mut u32,
 ) -> u32
-    ensures code { AnswersPublisherChannel service.old.domain (named_publisher numbers.now) channel result }
-    ensures tells { result ≡ 0 → TellsState service.old.domain (wide (numbers.now).id) channel connection state out.new }
-    ensures same { 0 < result → out.new ≡ out.old }
-    ensures unchanged { service.new ≡ service.old }
+    ensures { StateReturns numbers.now channel connection state service.old service.new out.old out.new result }
 {
+    if service.recording.is_on() {
+        return has_state_recorded(service, numbers, channel, connection, state, out);
+    }
+    has_state_unrecorded(service, numbers, channel, connection, state, out)
+}
+
+// The same, and it is recorded.
+#[cold]
+#[inline(never)]
+fn has_state_recorded(
+    service: &mut Service,
+    numbers: &PublisherNumbers,
+    channel: usize,
+    connection: usize,
+    state: u64,
+    out: &mut u32,
+) -> u32
+    ensures { StateReturns numbers.now channel connection state service.old service.new out.old out.new result }
+{
+    let code = has_state_unrecorded(service, numbers, channel, connection, state, out);
     let call = PublisherChannelCall::HasState { state };
+    service
+        .recording
+        .publisher_channel(numbers, channel, connection, call, code, *out);
+    code
+}
+
+// The same, and it isn't. It is inlined in neither: what it calls is then called in one place, and inlined.
+#[inline(never)]
+fn has_state_unrecorded(
+    service: &mut Service,
+    numbers: &PublisherNumbers,
+    channel: usize,
+    connection: usize,
+    state: u64,
+    out: &mut u32,
+) -> u32
+    ensures { StateReturns numbers.now channel connection state service.old service.new out.old out.new result }
+{
     let publisher = match publisher_with_channel(&service.domain, numbers, channel) {
         Ok(publisher) => publisher,
-        Err(code) => {
-            service
-                .recording
-                .publisher_channel(numbers, channel, connection, call, code, false);
-            return code;
-        }
+        Err(code) => return code,
     };
     let is_so = publisher.has_channel_state(&service.domain, channel, connection, state);
     publisher.disown();
     *out = number_of(is_so);
-    service
-        .recording
-        .publisher_channel(numbers, channel, connection, call, OK, is_so);
     OK
 }
 
@@ -188,26 +260,53 @@ pub fn has_hint(
     state: u64,
     out: &mut u32,
 ) -> u32
-    ensures code { AnswersPublisherChannel service.old.domain (named_publisher numbers.now) channel result }
-    ensures tells { result ≡ 0 → TellsHint service.old.domain (wide (numbers.now).id) channel connection state out.new }
-    ensures same { 0 < result → out.new ≡ out.old }
-    ensures unchanged { service.new ≡ service.old }
+    ensures { HintReturns numbers.now channel connection state service.old service.new out.old out.new result }
 {
+    if service.recording.is_on() {
+        return has_hint_recorded(service, numbers, channel, connection, state, out);
+    }
+    has_hint_unrecorded(service, numbers, channel, connection, state, out)
+}
+
+// The same, and it is recorded.
+#[cold]
+#[inline(never)]
+fn has_hint_recorded(
+    service: &mut Service,
+    numbers: &PublisherNumbers,
+    channel: usize,
+    connection: usize,
+    state: u64,
+    out: &mut u32,
+) -> u32
+    ensures { HintReturns numbers.now channel connection state service.old service.new out.old out.new result }
+{
+    let code = has_hint_unrecorded(service, numbers, channel, connection, state, out);
     let call = PublisherChannelCall::HasDisconnectHint { state };
+    service
+        .recording
+        .publisher_channel(numbers, channel, connection, call, code, *out);
+    code
+}
+
+// The same, and it isn't. It is inlined in neither: what it calls is then called in one place, and inlined.
+#[inline(never)]
+fn has_hint_unrecorded(
+    service: &mut Service,
+    numbers: &PublisherNumbers,
+    channel: usize,
+    connection: usize,
+    state: u64,
+    out: &mut u32,
+) -> u32
+    ensures { HintReturns numbers.now channel connection state service.old service.new out.old out.new result }
+{
     let publisher = match publisher_with_channel(&service.domain, numbers, channel) {
         Ok(publisher) => publisher,
-        Err(code) => {
-            service
-                .recording
-                .publisher_channel(numbers, channel, connection, call, code, false);
-            return code;
-        }
+        Err(code) => return code,
     };
     let is_so = publisher.has_disconnect_hint(&service.domain, channel, connection, state);
     publisher.disown();
     *out = number_of(is_so);
-    service
-        .recording
-        .publisher_channel(numbers, channel, connection, call, OK, is_so);
     OK
 }

@@ -4,7 +4,7 @@ ghost use Rattle.iox2_c.specs.ConnectionSends.{SendToReturns};
 
 use crate::calls::channels::has_channel;
 use crate::calls::loans::written_loan;
-use crate::calls::sends::{record_bytes, tell_of};
+use crate::calls::sends::tell_of;
 use crate::numbers::LoanNumbers;
 use crate::recording::error_of;
 use crate::service::Service;
@@ -57,5 +57,20 @@ fn record_bytes_into(service: &mut Service, numbers: &LoanNumbers, channel: usiz
 {
     if service.recording.is_on() && has_channel(&service.domain, channel) {
         record_bytes(service, numbers);
+    }
+}
+
+// Records them, unless no such loan is out or a send of its publisher waits: it isn't sent then.
+#[cold]
+#[inline(never)]
+fn record_bytes(service: &mut Service, numbers: &LoanNumbers)
+    ensures { service.new ≡ service.old }
+{
+    if let Some(loan) = written_loan(&service.domain, numbers, numbers.book) {
+        if !loan.is_blocked(&service.domain) {
+            let bytes = loan.payload(&service.domain);
+            service.recording.written(numbers, bytes);
+        }
+        loan.disown();
     }
 }

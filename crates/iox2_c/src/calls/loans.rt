@@ -33,10 +33,10 @@ pub fn written_loan(domain: &BytesDomain, numbers: &LoanNumbers, book: usize) ->
 
 /// Gives a loan back unsent.
 pub fn discard(service: &mut Service, numbers: &LoanNumbers) -> u32
-    ensures code { ((result ≡ 0) × IsOut service.old.domain (named_loan numbers.now)) ⊎ IsRefusedLoan service.old.domain (named_loan numbers.now) result }
-    ensures discards { result ≡ 0 → Discards service.old.domain service.new.domain (wide (numbers.now).number) }
-    ensures spent { result ≡ 0 → IsLoanKey service.new.domain (named_loan numbers.now) → ⊥ }
-    ensures refused { 0 < result → service.new ≡ service.old }
+    ensures code { ((result ≡ OK) × IsOut service.old.domain (named_loan numbers.now)) ⊎ IsRefusedLoan service.old.domain (named_loan numbers.now) result }
+    ensures discards { result ≡ OK → Discards service.old.domain service.new.domain (wide (numbers.now).number) }
+    ensures spent { result ≡ OK → IsLoanKey service.new.domain (named_loan numbers.now) → ⊥ }
+    ensures refused { OK < result → service.new ≡ service.old }
     ensures stays { ServesBut (A_loan (wide (numbers.now).number)) service.old service.new }
 {
     let Some(loan) = written_loan(&service.domain, numbers, numbers.book) else {
@@ -50,10 +50,10 @@ pub fn discard(service: &mut Service, numbers: &LoanNumbers) -> u32
 
 /// Where the bytes of a loan lie.
 pub fn payload(service: &Service, numbers: &LoanNumbers, out: &mut *mut u8, len: &mut usize) -> u32
-    ensures code { (result ≡ 0) ⊎ IsRefusedLoan service.now.domain (named_loan numbers.now) result }
-    ensures out { result ≡ 0 → IsOut service.now.domain (named_loan numbers.now) }
-    ensures length { result ≡ 0 → (values : List ℕ) → HasValues service.now.domain (wide (numbers.now).number) values → len.new ≡ length values }
-    ensures same { 0 < result → len.new ≡ len.old }
+    ensures code { (result ≡ OK) ⊎ IsRefusedLoan service.now.domain (named_loan numbers.now) result }
+    ensures out { result ≡ OK → IsOut service.now.domain (named_loan numbers.now) }
+    ensures length { result ≡ OK → (values : List ℕ) → HasValues service.now.domain (wide (numbers.now).number) values → len.new ≡ length values }
+    ensures same { OK < result → len.new ≡ len.old }
 {
     let Some(loan) = written_loan(&service.domain, numbers, numbers.book) else {
         return NOT_LIVE;

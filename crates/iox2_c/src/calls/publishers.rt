@@ -12,27 +12,26 @@ ghost use Rattle.iox2_c.specs.Settings.{ReadsSettings, invalid_publisher_option,
 ghost use Rattle.iox2_c.specs.Steps.{ClosesPublisher, CreatesPublisher};
 
 use crate::config::{Config, strategy_of};
-use crate::handlers::NoHandler;
 use crate::numbers::PublisherNumbers;
 use crate::options::{PublisherOptions, allocation_of, degradation_of};
 use crate::recording::publisher_reply;
 use crate::service::{BytesDomain, Service};
 use crate::status::{NOT_LIVE, OK, PUBLISHER_IS_BLOCKED, publisher_status};
-use iox2_pubsub::PublisherCreateError;
 use iox2_pubsub::slice::{PortFactoryPublisher, Publisher};
+use iox2_pubsub::{NoHandler, PublisherCreateError};
 
 // A factory of publishers without an override.
 type Factory = PortFactoryPublisher<NoHandler, NoHandler>;
 
 /// Makes a publisher, as the settings say.
 pub fn create(service: &mut Service, out: &mut PublisherNumbers) -> u32
-    ensures creates { result ≡ 0 → CreatesPublisher service.old.domain service.new.domain (plain_publisher_settings service.old) (Ok (wide (out.new).id)) }
-    ensures errors { 0 < result → (error : PublisherCreateError) × (result ≡ publisher_code error)
+    ensures creates { result ≡ OK → CreatesPublisher service.old.domain service.new.domain (plain_publisher_settings service.old) (Ok (wide (out.new).id)) }
+    ensures errors { OK < result → (error : PublisherCreateError) × (result ≡ publisher_code error)
         × CreatesPublisher service.old.domain service.new.domain (plain_publisher_settings service.old) (Err error) }
-    ensures ready { result ≡ 0 → IsReadyKey service.new.domain (named_publisher out.new) }
-    ensures new { result ≡ 0 → IsNewIn service.old.domain (A_publisher (wide (out.new).id)) }
-    ensures reads { result ≡ 0 → ReadsSettings out.new (plain_publisher_settings service.old) }
-    ensures same { 0 < result → out.new ≡ out.old }
+    ensures ready { result ≡ OK → IsReadyKey service.new.domain (named_publisher out.new) }
+    ensures new { result ≡ OK → IsNewIn service.old.domain (A_publisher (wide (out.new).id)) }
+    ensures reads { result ≡ OK → ReadsSettings out.new (plain_publisher_settings service.old) }
+    ensures same { OK < result → out.new ≡ out.old }
     ensures stays { ServesBut No_item service.old service.new }
 {
     let factory = plain_factory(service);
@@ -125,9 +124,9 @@ pub fn create_with(
     options: &PublisherOptions,
     out: &mut PublisherNumbers,
 ) -> u32
-    ensures creates { result ≡ 0 → CreatesPublisher service.old.domain service.new.domain
+    ensures creates { result ≡ OK → CreatesPublisher service.old.domain service.new.domain
         (settings_of_options (service.old.domain).config options.now) (Ok (wide (out.new).id)) }
-    ensures errors { 0 < result → result < first_setting_code → (error : PublisherCreateError)
+    ensures errors { OK < result → result < first_setting_code → (error : PublisherCreateError)
         × (result ≡ publisher_code error)
         × CreatesPublisher service.old.domain service.new.domain
         (settings_of_options (service.old.domain).config options.now) (Err error) }
@@ -135,10 +134,10 @@ pub fn create_with(
     ensures invalid { first_setting_code ≤ result
         → (result ≡ invalid_publisher_option service.old.payload_alignment options.now)
         × (service.new ≡ service.old) }
-    ensures ready { result ≡ 0 → IsReadyKey service.new.domain (named_publisher out.new) }
-    ensures new { result ≡ 0 → IsNewIn service.old.domain (A_publisher (wide (out.new).id)) }
-    ensures reads { result ≡ 0 → ReadsSettings out.new (settings_of_options (service.old.domain).config options.now) }
-    ensures same { 0 < result → out.new ≡ out.old }
+    ensures ready { result ≡ OK → IsReadyKey service.new.domain (named_publisher out.new) }
+    ensures new { result ≡ OK → IsNewIn service.old.domain (A_publisher (wide (out.new).id)) }
+    ensures reads { result ≡ OK → ReadsSettings out.new (settings_of_options (service.old.domain).config options.now) }
+    ensures same { OK < result → out.new ≡ out.old }
     ensures stays { ServesBut No_item service.old service.new }
 {
     let invalid = options.first_invalid(service.payload_alignment);
@@ -174,11 +173,11 @@ pub fn ready_publisher(domain: &BytesDomain, numbers: &PublisherNumbers) -> Resu
 
 /// Closes a publisher.
 pub fn close(service: &mut Service, numbers: &PublisherNumbers) -> u32
-    ensures code { (result ≡ 0) ⊎ RefusesPublisher service.old.domain (named_publisher numbers.now) result }
-    ensures ready { result ≡ 0 → IsReadyKey service.old.domain (named_publisher numbers.now) }
-    ensures closed { result ≡ 0 → ClosesPublisher service.old.domain service.new.domain (wide (numbers.now).id) }
-    ensures spent { result ≡ 0 → IsPublisherKey service.new.domain (named_publisher numbers.now) → ⊥ }
-    ensures refused { 0 < result → service.new ≡ service.old }
+    ensures code { (result ≡ OK) ⊎ RefusesPublisher service.old.domain (named_publisher numbers.now) result }
+    ensures ready { result ≡ OK → IsReadyKey service.old.domain (named_publisher numbers.now) }
+    ensures closed { result ≡ OK → ClosesPublisher service.old.domain service.new.domain (wide (numbers.now).id) }
+    ensures spent { result ≡ OK → IsPublisherKey service.new.domain (named_publisher numbers.now) → ⊥ }
+    ensures refused { OK < result → service.new ≡ service.old }
     ensures stays { ServesBut (A_publisher (wide (numbers.now).id)) service.old service.new }
 {
     match ready_publisher(&service.domain, numbers) {

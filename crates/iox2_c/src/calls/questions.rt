@@ -9,7 +9,7 @@ ghost use Rattle.iox2_machine.specs.declared.errors.ConnectionFailure.{Connectio
 ghost use Rattle.iox2_pubsub.specs.Live.{IsBlockedKey, IsPublisherKey, IsSubscriberKey, IsUnblocked, No_item};
 ghost use Rattle.iox2_c.specs.Calls.{RefusesPublisher};
 ghost use Rattle.iox2_c.specs.Channels.{TellsBlocker};
-ghost use Rattle.iox2_c.specs.Codes.{code_of, failure_code, invalid_struct_size};
+ghost use Rattle.iox2_c.specs.Codes.{code_of, failure_code, first_error_code, invalid_struct_size};
 ghost use Rattle.iox2_c.specs.Numbers.{named_loan, named_publisher, named_subscriber, wide};
 ghost use Rattle.iox2_c.specs.Serving.{ServesBut};
 ghost use Rattle.iox2_c.specs.Settings.{config_size, settings_in, settings_of};
@@ -23,7 +23,9 @@ use crate::config::{CONFIG_SIZE, Config};
 use crate::numbers::{LoanNumbers, PublisherNumbers, SubscriberNumbers, Wide};
 use crate::recording::{Recording, error_of};
 use crate::service::Service;
-use crate::status::{INVALID_STRUCT_SIZE, NOT_LIVE, OK, OUT_OF_MEMORY, failure_status};
+use crate::status::{
+    INVALID_STRUCT_SIZE, NO_DOMAIN, NOT_LIVE, OK, OUT_OF_MEMORY, TOO_SMALL, failure_status,
+};
 use crate::warning::{WarningNumbers, numbers_of};
 use call_recorder::Name;
 use iox2_pubsub::{ConnectionFailure, UpdateConnections};
@@ -31,11 +33,12 @@ use std::alloc::Global;
 
 /// Makes and removes a publisher's connections.
 pub fn update_publisher(service: &mut Service, numbers: &PublisherNumbers) -> u32
-    ensures code { result ≡ 1 → ⊥ }
-    ensures updates { (result ≡ 0) ⊎ (10 ≤ result) → (updated : Result (Unit {0}) ConnectionFailure)
+    ensures code { result ≡ NO_DOMAIN → ⊥ }
+    ensures updates { (result ≡ OK) ⊎ (first_error_code ≤ result) → (updated : Result (Unit {0}) ConnectionFailure)
         × (result ≡ code_of failure_code updated)
         × PublisherUpdates service.old.domain service.new.domain (wide (numbers.now).id) updated }
-    ensures why { 1 < result → result < 10 → RefusesPublisher service.old.domain (named_publisher numbers.now) result × (service.new ≡ service.old) }
+    ensures why { NO_DOMAIN < result → result < first_error_code
+        → RefusesPublisher service.old.domain (named_publisher numbers.now) result × (service.new ≡ service.old) }
     ensures stays { ServesBut No_item service.old service.new }
 {
     let publisher = match ready_publisher(&service.domain, numbers) {
@@ -52,11 +55,11 @@ pub fn update_publisher(service: &mut Service, numbers: &PublisherNumbers) -> u3
 
 /// Makes and removes a subscriber's connections.
 pub fn update_subscriber(service: &mut Service, numbers: &SubscriberNumbers) -> u32
-    ensures code { result ≡ 1 → ⊥ }
-    ensures updates { (result ≡ 2 → ⊥) → (updated : Result (Unit {0}) ConnectionFailure)
+    ensures code { result ≡ NO_DOMAIN → ⊥ }
+    ensures updates { (result ≡ NOT_LIVE → ⊥) → (updated : Result (Unit {0}) ConnectionFailure)
         × (result ≡ code_of failure_code updated)
         × SubscriberUpdates service.old.domain service.new.domain (wide (numbers.now).id) updated }
-    ensures not_live { result ≡ 2 → (IsSubscriberKey service.old.domain (named_subscriber numbers.now) → ⊥) × (service.new ≡ service.old) }
+    ensures not_live { result ≡ NOT_LIVE → (IsSubscriberKey service.old.domain (named_subscriber numbers.now) → ⊥) × (service.new ≡ service.old) }
     ensures stays { ServesBut No_item service.old service.new }
 {
     let Some(subscriber) = live_subscriber(&service.domain, numbers) else {
@@ -70,12 +73,12 @@ pub fn update_subscriber(service: &mut Service, numbers: &SubscriberNumbers) -> 
 
 /// Whether a message waits for a subscriber, after an update.
 pub fn has_samples(service: &mut Service, numbers: &SubscriberNumbers, waits: &mut u32) -> u32
-    ensures code { result ≡ 1 → ⊥ }
-    ensures answers { (result ≡ 2 → ⊥) → (answer : Result Bool ConnectionFailure)
+    ensures code { result ≡ NO_DOMAIN → ⊥ }
+    ensures answers { (result ≡ NOT_LIVE → ⊥) → (answer : Result Bool ConnectionFailure)
         × (result ≡ code_of failure_code answer) × IfOk answer (λ some_wait. waits.new ≡ cond some_wait 1 0)
         × Asks service.old.domain service.new.domain (wide (numbers.now).id) answer }
-    ensures not_live { result ≡ 2 → (IsSubscriberKey service.old.domain (named_subscriber numbers.now) → ⊥) × (service.new ≡ service.old) }
-    ensures same { 0 < result → waits.new ≡ waits.old }
+    ensures not_live { result ≡ NOT_LIVE → (IsSubscriberKey service.old.domain (named_subscriber numbers.now) → ⊥) × (service.new ≡ service.old) }
+    ensures same { OK < result → waits.new ≡ waits.old }
     ensures stays { ServesBut No_item service.old service.new }
 {
     let Some(subscriber) = live_subscriber(&service.domain, numbers) else {
@@ -127,11 +130,11 @@ pub fn number_of(is_so: bool) -> u32
 
 /// Whether a send of a publisher waits.
 pub fn is_blocked(service: &Service, numbers: &PublisherNumbers, out: &mut u32) -> u32
-    ensures code { (result ≡ 0) ⊎ ((result ≡ 2) × (IsPublisherKey service.now.domain (named_publisher numbers.now) → ⊥)) }
-    ensures live { result ≡ 0 → IsPublisherKey service.now.domain (named_publisher numbers.now) }
-    ensures tells { result ≡ 0 → (out.new ≡ 0) ↔ IsUnblocked service.now.domain (named_publisher numbers.now) }
-    ensures answer { result ≡ 0 → (out.new ≡ 0) ⊎ (out.new ≡ 1) }
-    ensures same { 0 < result → out.new ≡ out.old }
+    ensures code { (result ≡ OK) ⊎ ((result ≡ NOT_LIVE) × (IsPublisherKey service.now.domain (named_publisher numbers.now) → ⊥)) }
+    ensures live { result ≡ OK → IsPublisherKey service.now.domain (named_publisher numbers.now) }
+    ensures tells { result ≡ OK → (out.new ≡ 0) ↔ IsUnblocked service.now.domain (named_publisher numbers.now) }
+    ensures answer { result ≡ OK → (out.new ≡ 0) ⊎ (out.new ≡ 1) }
+    ensures same { OK < result → out.new ≡ out.old }
 {
     let Some(publisher) = service.domain.publisher_of(&numbers.parts()) else {
         return NOT_LIVE;
@@ -143,10 +146,10 @@ pub fn is_blocked(service: &Service, numbers: &PublisherNumbers, out: &mut u32) 
 
 /// One of the domain's last warnings, the oldest first.
 pub fn warning(service: &Service, index: usize, out: &mut WarningNumbers) -> u32
-    ensures code { (result ≡ 0) ⊎ ((result ≡ 2) × (slice_get (buffer (service.now.domain.warnings).latest warning_limit).items index ≡ None)) }
-    ensures reads { result ≡ 0 → IfSome (slice_get (buffer (service.now.domain.warnings).latest warning_limit).items
+    ensures code { (result ≡ OK) ⊎ ((result ≡ NOT_LIVE) × (slice_get (buffer (service.now.domain.warnings).latest warning_limit).items index ≡ None)) }
+    ensures reads { result ≡ OK → IfSome (slice_get (buffer (service.now.domain.warnings).latest warning_limit).items
         index) (λ warning. TellsOf warning out.new) }
-    ensures same { 0 < result → out.new ≡ out.old }
+    ensures same { OK < result → out.new ≡ out.old }
 {
     match service.domain.warnings().get(index) {
         Some(warning) => {
@@ -159,7 +162,7 @@ pub fn warning(service: &Service, index: usize, out: &mut WarningNumbers) -> u32
 
 /// How many of its last warnings the domain has.
 pub fn warning_count(service: &Service, count: &mut usize) -> u32
-    ensures code { result ≡ 0 }
+    ensures code { result ≡ OK }
     ensures counts { count.new ≡ length (buffer (service.now.domain.warnings).latest warning_limit).items }
 {
     *count = service.domain.warnings().len();
@@ -168,7 +171,7 @@ pub fn warning_count(service: &Service, count: &mut usize) -> u32
 
 /// How often memory for a connection was refused.
 pub fn refused_connections(service: &Service, count: &mut u64) -> u32
-    ensures code { result ≡ 0 }
+    ensures code { result ≡ OK }
     ensures counts { count.new ≡ (service.now.domain.warnings).refused_connections }
 {
     *count = service.domain.refused_connections();
@@ -177,7 +180,7 @@ pub fn refused_connections(service: &Service, count: &mut u64) -> u32
 
 /// How many connections the domain keeps.
 pub fn connection_count(service: &Service, count: &mut usize) -> u32
-    ensures code { result ≡ 0 }
+    ensures code { result ≡ OK }
     ensures counts { count.new ≡ count_by is_some service.now.domain.connections }
 {
     *count = service.domain.connection_count();
@@ -186,7 +189,7 @@ pub fn connection_count(service: &Service, count: &mut usize) -> u32
 
 /// How many books of slots the domain keeps.
 pub fn book_count(service: &Service, count: &mut usize) -> u32
-    ensures code { result ≡ 0 }
+    ensures code { result ≡ OK }
     ensures counts { count.new ≡ count_by is_some service.now.domain.books }
 {
     *count = service.domain.book_count();
@@ -195,11 +198,11 @@ pub fn book_count(service: &Service, count: &mut usize) -> u32
 
 /// The subscriber that a blocked send waits for.
 pub fn blocker(service: &Service, numbers: &LoanNumbers, subscriber: &mut Wide) -> u32
-    ensures code { (result ≡ 0) ⊎ (result ≡ 2) }
-    ensures live { result ≡ 0 → IsBlockedKey service.now.domain (named_loan numbers.now) }
-    ensures tells { result ≡ 0 → TellsBlocker service.now.domain (wide (numbers.now).publisher) (wide subscriber.new) }
-    ensures not_live { result ≡ 2 → IsBlockedKey service.now.domain (named_loan numbers.now) → ⊥ }
-    ensures same { 0 < result → subscriber.new ≡ subscriber.old }
+    ensures code { (result ≡ OK) ⊎ (result ≡ NOT_LIVE) }
+    ensures live { result ≡ OK → IsBlockedKey service.now.domain (named_loan numbers.now) }
+    ensures tells { result ≡ OK → TellsBlocker service.now.domain (wide (numbers.now).publisher) (wide subscriber.new) }
+    ensures not_live { result ≡ NOT_LIVE → IsBlockedKey service.now.domain (named_loan numbers.now) → ⊥ }
+    ensures same { OK < result → subscriber.new ≡ subscriber.old }
 {
     let Some(waiting) = service.domain.blocked_of(&numbers.parts()) else {
         return NOT_LIVE;
@@ -211,13 +214,13 @@ pub fn blocker(service: &Service, numbers: &LoanNumbers, subscriber: &mut Wide) 
 
 /// The domain's settings, for a struct of that size.
 pub fn config(service: &Service, out: &mut Config, struct_size: usize) -> u32
-    ensures code { (result ≡ 0) ⊎ (result ≡ invalid_struct_size) }
+    ensures code { (result ≡ OK) ⊎ (result ≡ invalid_struct_size) }
     ensures unknown { (result ≡ invalid_struct_size) ↔ (struct_size ≢ config_size) }
-    ensures known { result ≡ 0 → (out.new).struct_size ≡ config_size }
-    ensures reads { result ≡ 0 → settings_of out.new ≡ settings_in service.now.domain }
-    ensures size { result ≡ 0 → (out.new).payload_size ≡ service.now.payload_size }
-    ensures alignment { result ≡ 0 → (out.new).payload_alignment ≡ service.now.payload_alignment }
-    ensures same { 0 < result → out.new ≡ out.old }
+    ensures known { result ≡ OK → (out.new).struct_size ≡ config_size }
+    ensures reads { result ≡ OK → settings_of out.new ≡ settings_in service.now.domain }
+    ensures size { result ≡ OK → (out.new).payload_size ≡ service.now.payload_size }
+    ensures alignment { result ≡ OK → (out.new).payload_alignment ≡ service.now.payload_alignment }
+    ensures same { OK < result → out.new ≡ out.old }
 {
     if struct_size != CONFIG_SIZE {
         return INVALID_STRUCT_SIZE;
@@ -239,11 +242,11 @@ pub fn recording(
     len: &mut usize,
     missed: &mut u64,
 ) -> u32
-    ensures code { (result ≡ 0) ⊎ (result ≡ 4) ⊎ (result ≡ 9) }
-    ensures fits { result ≡ 0 → len.new ≤ length bytes.old }
-    ensures small { result ≡ 9 → length bytes.old < len.new }
-    ensures rest { result ≡ 0 → drop len.new bytes.new ≡ drop len.new bytes.old }
-    ensures same { 0 < result → bytes.new ≡ bytes.old }
+    ensures code { (result ≡ OK) ⊎ (result ≡ OUT_OF_MEMORY) ⊎ (result ≡ TOO_SMALL) }
+    ensures fits { result ≡ OK → len.new ≤ length bytes.old }
+    ensures small { result ≡ TOO_SMALL → length bytes.old < len.new }
+    ensures rest { result ≡ OK → drop len.new bytes.new ≡ drop len.new bytes.old }
+    ensures same { OK < result → bytes.new ≡ bytes.old }
 {
     let Ok(text) = service.recording.text(alloc, service.domain.config()) else {
         return OUT_OF_MEMORY;

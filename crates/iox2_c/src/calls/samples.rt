@@ -34,10 +34,10 @@ pub fn payload(
     out: &mut *const u8,
     len: &mut usize,
 ) -> u32
-    ensures code { (result ≡ 0) ⊎ ((result ≡ 2) × (IsSampleKey service.now.domain (named_sample numbers.now) → ⊥)) }
-    ensures live { result ≡ 0 → IsSampleKey service.now.domain (named_sample numbers.now) }
-    ensures length { result ≡ 0 → (values : List ℕ) → SampleHasValues service.now.domain (named_sample numbers.now) values → len.new ≡ length values }
-    ensures same { 0 < result → len.new ≡ len.old }
+    ensures code { (result ≡ OK) ⊎ ((result ≡ NOT_LIVE) × (IsSampleKey service.now.domain (named_sample numbers.now) → ⊥)) }
+    ensures live { result ≡ OK → IsSampleKey service.now.domain (named_sample numbers.now) }
+    ensures length { result ≡ OK → (values : List ℕ) → SampleHasValues service.now.domain (named_sample numbers.now) values → len.new ≡ length values }
+    ensures same { OK < result → len.new ≡ len.old }
 {
     let Some(sample) = live_sample(&service.domain, numbers) else {
         return NOT_LIVE;
@@ -51,15 +51,15 @@ pub fn payload(
 
 /// Copies the bytes of a sample. Where there are more than there is room for, says how many there are.
 pub fn copy(service: &Service, numbers: &SampleNumbers, bytes: &mut [u8], len: &mut usize) -> u32
-    ensures code { (result ≡ 0) ⊎ (result ≡ 9) ⊎ ((result ≡ 2) × (IsSampleKey service.now.domain (named_sample numbers.now) → ⊥)) }
-    ensures live { result ≢ 2 → IsSampleKey service.now.domain (named_sample numbers.now) }
-    ensures copied { result ≡ 0 → SampleHasValues service.now.domain (named_sample numbers.now) (take len.new bytes.new) }
-    ensures fits { result ≡ 0 → len.new ≤ length bytes.old }
-    ensures rest { result ≡ 0 → drop len.new bytes.new ≡ drop len.new bytes.old }
-    ensures length { result ≢ 2 → (values : List ℕ) → SampleHasValues service.now.domain (named_sample numbers.now) values → len.new ≡ length values }
-    ensures small { (result ≡ 9) → length bytes.old < len.new }
-    ensures same { 0 < result → bytes.new ≡ bytes.old }
-    ensures same_length { result ≡ 2 → len.new ≡ len.old }
+    ensures code { (result ≡ OK) ⊎ (result ≡ TOO_SMALL) ⊎ ((result ≡ NOT_LIVE) × (IsSampleKey service.now.domain (named_sample numbers.now) → ⊥)) }
+    ensures live { result ≢ NOT_LIVE → IsSampleKey service.now.domain (named_sample numbers.now) }
+    ensures copied { result ≡ OK → SampleHasValues service.now.domain (named_sample numbers.now) (take len.new bytes.new) }
+    ensures fits { result ≡ OK → len.new ≤ length bytes.old }
+    ensures rest { result ≡ OK → drop len.new bytes.new ≡ drop len.new bytes.old }
+    ensures length { result ≢ NOT_LIVE → (values : List ℕ) → SampleHasValues service.now.domain (named_sample numbers.now) values → len.new ≡ length values }
+    ensures small { (result ≡ TOO_SMALL) → length bytes.old < len.new }
+    ensures same { OK < result → bytes.new ≡ bytes.old }
+    ensures same_length { result ≡ NOT_LIVE → len.new ≡ len.old }
 {
     let Some(sample) = live_sample(&service.domain, numbers) else {
         return NOT_LIVE;
@@ -72,12 +72,12 @@ pub fn copy(service: &Service, numbers: &SampleNumbers, bytes: &mut [u8], len: &
 
 /// Copies the bytes where there is room for them.
 pub fn copy_bytes(from: &[u8], bytes: &mut [u8]) -> u32
-    ensures copied { result ≡ 0 → take (length from.now) bytes.new ≡ from.now }
-    ensures fits { result ≡ 0 → length from.now ≤ length bytes.old }
-    ensures rest { result ≡ 0 → drop (length from.now) bytes.new ≡ drop (length from.now) bytes.old }
-    ensures small { (result ≡ 9) → length bytes.old < length from.now }
-    ensures same { 0 < result → bytes.new ≡ bytes.old }
-    ensures code { (result ≡ 0) ⊎ (result ≡ 9) }
+    ensures copied { result ≡ OK → take (length from.now) bytes.new ≡ from.now }
+    ensures fits { result ≡ OK → length from.now ≤ length bytes.old }
+    ensures rest { result ≡ OK → drop (length from.now) bytes.new ≡ drop (length from.now) bytes.old }
+    ensures small { (result ≡ TOO_SMALL) → length bytes.old < length from.now }
+    ensures same { OK < result → bytes.new ≡ bytes.old }
+    ensures code { (result ≡ OK) ⊎ (result ≡ TOO_SMALL) }
 {
     if from.len() > bytes.len() {
         return TOO_SMALL;
@@ -96,17 +96,17 @@ pub fn copy_out(
     out: &mut SampleNumbers,
 ) -> u32
     requires { IsLiveSample service.old.domain sample }
-    ensures code { (result ≡ 0) ⊎ (result ≡ 9) }
-    ensures copied { result ≡ 0 → SampleHasValues service.old.domain (sample_key sample) (take len.new bytes.new) }
-    ensures fits { result ≡ 0 → len.new ≤ length bytes.old }
-    ensures releases { result ≡ 0 → SubscriberReleases service.old.domain service.new.domain (receiver_of sample) (sample_number sample) }
-    ensures kept { result ≡ 9 → service.new ≡ service.old }
-    ensures named { result ≡ 9 → named_sample out.new ≡ sample_key sample }
-    ensures origin { result ≡ 9 → wide (out.new).origin ≡ origin_of sample }
-    ensures small { result ≡ 9 → length bytes.old < len.new }
+    ensures code { (result ≡ OK) ⊎ (result ≡ TOO_SMALL) }
+    ensures copied { result ≡ OK → SampleHasValues service.old.domain (sample_key sample) (take len.new bytes.new) }
+    ensures fits { result ≡ OK → len.new ≤ length bytes.old }
+    ensures releases { result ≡ OK → SubscriberReleases service.old.domain service.new.domain (receiver_of sample) (sample_number sample) }
+    ensures kept { result ≡ TOO_SMALL → service.new ≡ service.old }
+    ensures named { result ≡ TOO_SMALL → named_sample out.new ≡ sample_key sample }
+    ensures origin { result ≡ TOO_SMALL → wide (out.new).origin ≡ origin_of sample }
+    ensures small { result ≡ TOO_SMALL → length bytes.old < len.new }
     ensures length { (values : List ℕ) → SampleHasValues service.old.domain (sample_key sample) values → len.new ≡ length values }
-    ensures same { 0 < result → bytes.new ≡ bytes.old }
-    ensures same_numbers { result ≡ 0 → out.new ≡ out.old }
+    ensures same { OK < result → bytes.new ≡ bytes.old }
+    ensures same_numbers { result ≡ OK → out.new ≡ out.old }
     ensures stays { ServesBut (received_sample sample) service.old service.new }
 {
     let from = sample.payload(&service.domain);
@@ -124,10 +124,10 @@ pub fn copy_out(
 
 /// Where the message of a sample comes from.
 pub fn header(service: &Service, numbers: &SampleNumbers, out: &mut HeaderNumbers) -> u32
-    ensures code { (result ≡ 0) ⊎ ((result ≡ 2) × (IsSampleKey service.now.domain (named_sample numbers.now) → ⊥)) }
-    ensures live { result ≡ 0 → IsSampleKey service.now.domain (named_sample numbers.now) }
-    ensures reads { result ≡ 0 → (header : Header) → SampleHasHeader service.now.domain (named_sample numbers.now) header → IsHeader header out.new }
-    ensures same { 0 < result → out.new ≡ out.old }
+    ensures code { (result ≡ OK) ⊎ ((result ≡ NOT_LIVE) × (IsSampleKey service.now.domain (named_sample numbers.now) → ⊥)) }
+    ensures live { result ≡ OK → IsSampleKey service.now.domain (named_sample numbers.now) }
+    ensures reads { result ≡ OK → (header : Header) → SampleHasHeader service.now.domain (named_sample numbers.now) header → IsHeader header out.new }
+    ensures same { OK < result → out.new ≡ out.old }
 {
     let Some(sample) = live_sample(&service.domain, numbers) else {
         return NOT_LIVE;
@@ -137,9 +137,9 @@ pub fn header(service: &Service, numbers: &SampleNumbers, out: &mut HeaderNumber
     OK
 }
 
-// A handle of a sample that is where its numbers say, and was borrowed last there.
+/// A handle of a sample that is where its numbers say, and was borrowed last there.
 #[inline(always)]
-fn sample_at_hint(domain: &mut BytesDomain, numbers: &SampleNumbers) -> Option<Sample>
+pub fn sample_at_hint(domain: &mut BytesDomain, numbers: &SampleNumbers) -> Option<Sample>
     ensures live { IfSome result (λ it. IsLiveSample domain.new it) }
     ensures named { IfSome result (λ it. sample_key it ≡ named_sample numbers.now) }
     ensures number { IfSome result (λ it. sample_number it ≡ wide (numbers.now).number) }

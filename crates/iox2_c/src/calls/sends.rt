@@ -1,17 +1,15 @@
 //! Sends, and those that wait.
-ghost use Rattle.std.specs.Prelude.{◌≡◌, ◌≢◌, ◌<◌, ◌⊎◌, nat_eq, IfOk};
+ghost use Rattle.std.specs.Prelude.{◌≡◌, ◌<◌, IfOk};
 ghost use Rattle.std.specs.declared.result.Result.{Result};
 ghost use Rattle.iox2_machine.specs.declared.errors.SendError.{SendError};
 ghost use Rattle.iox2_pubsub.specs.declared.send_outcome.SendOutcome.{SendOutcome};
-ghost use Rattle.iox2_pubsub.specs.Live.{A_blocked_send, A_sent_copy, IsBlockedKey, IsReadyPublisher, StaysBut, blocked_key};
+ghost use Rattle.iox2_pubsub.specs.Live.{IsBlockedKey, IsReadyPublisher, StaysBut, blocked_key};
 ghost use Rattle.iox2_pubsub.specs.Handles.{as_publisher, publisher_id};
 ghost use Rattle.iox2_pubsub.specs.SendCalls.{IfBlocked, spent_by_copy};
-ghost use Rattle.iox2_c.specs.Calls.{RefusesPublisher};
-ghost use Rattle.iox2_c.specs.Codes.{receivers_of, sent_code};
-ghost use Rattle.iox2_c.specs.Numbers.{named_loan, named_publisher, wide};
-ghost use Rattle.iox2_c.specs.Returns.{SendReturns, TellsSent};
-ghost use Rattle.iox2_c.specs.Serving.{IsOfBytes, ServesBut};
-ghost use Rattle.iox2_c.specs.Steps.{BlockedSendGivesUp, BlockedSendRetries, SendsBytes};
+ghost use Rattle.iox2_c.specs.Numbers.{named_loan};
+ghost use Rattle.iox2_c.specs.Returns.{GiveUpReturns, RetryReturns, SendCopyReturns, SendReturns, TellsSent};
+ghost use Rattle.iox2_c.specs.Serving.{IsOfBytes};
+ghost use Rattle.iox2_c.specs.Steps.{SendsBytes};
 
 use crate::calls::loans::written_loan;
 use crate::calls::publishers::ready_publisher;
@@ -83,31 +81,13 @@ pub fn send(
         return send_recorded(service, numbers, receivers, blocked);
     }
     match service.domain.sends_at_once(&numbers.parts()) {
-        Some(book) => send_named(service, numbers, book, receivers, blocked, None),
-        None => send_elsewhere(service, numbers, receivers, blocked, None),
+        Some(book) => send_named(service, numbers, book, receivers, blocked),
+        None => send_elsewhere(service, numbers, receivers, blocked),
     }
 }
 
-// The same, and records it.
-#[cold]
-#[inline(never)]
-fn send_recorded(
-    service: &mut Service,
-    numbers: &LoanNumbers,
-    receivers: &mut usize,
-    blocked: &mut LoanNumbers,
-) -> u32
-    ensures { SendReturns numbers.now service.old service.new receivers.old receivers.new blocked.old blocked.new result }
-{
-    record_bytes(service, numbers);
-    let mut failed = None;
-    let code = send_elsewhere(service, numbers, receivers, blocked, Some(&mut failed));
-    service.recording.sent(numbers, code, *receivers, failed);
-    code
-}
-
-// The same, and why it failed, where that is asked. The loan is looked for in this book first. What was
-// found before of the loan, and of its publisher, isn't tested again here.
+// The same. The loan is looked for in this book first. What was found before of the loan, and of its
+// publisher, isn't tested again here.
 #[inline(always)]
 fn send_named(
     service: &mut Service,
@@ -115,7 +95,6 @@ fn send_named(
     book: usize,
     receivers: &mut usize,
     blocked: &mut LoanNumbers,
-    failed: Option<&mut Option<SendError>>,
 ) -> u32
     ensures { SendReturns numbers.now service.old service.new receivers.old receivers.new blocked.old blocked.new result }
 {
@@ -127,9 +106,6 @@ fn send_named(
         return PUBLISHER_IS_BLOCKED;
     }
     let sent = loan.send(&mut service.domain);
-    if let Some(failed) = failed {
-        *failed = error_of(&sent);
-    }
     tell_of(sent, numbers, receivers, blocked)
 }
 
@@ -141,24 +117,52 @@ fn send_elsewhere(
     numbers: &LoanNumbers,
     receivers: &mut usize,
     blocked: &mut LoanNumbers,
-    failed: Option<&mut Option<SendError>>,
 ) -> u32
     ensures { SendReturns numbers.now service.old service.new receivers.old receivers.new blocked.old blocked.new result }
 {
-    send_named(service, numbers, numbers.book, receivers, blocked, failed)
+    send_named(service, numbers, numbers.book, receivers, blocked)
 }
 
-// Records the bytes of a loan that is out, unless a send of its publisher waits: the loan isn't sent then.
-pub(crate) fn record_bytes(service: &mut Service, numbers: &LoanNumbers)
-    ensures { service.new ≡ service.old }
+// The same, and it is recorded.
+#[cold]
+#[inline(never)]
+fn send_recorded(
+    service: &mut Service,
+    numbers: &LoanNumbers,
+    receivers: &mut usize,
+    blocked: &mut LoanNumbers,
+) -> u32
+    ensures { SendReturns numbers.now service.old service.new receivers.old receivers.new blocked.old blocked.new result }
 {
-    if let Some(loan) = written_loan(&service.domain, numbers, numbers.book) {
-        if !loan.is_blocked(&service.domain) {
-            let bytes = loan.payload(&service.domain);
-            service.recording.written(numbers, bytes);
-        }
+    let mut failed = None;
+    let code = send_with_bytes(service, numbers, receivers, blocked, &mut failed);
+    service.recording.sent(numbers, code, *receivers, failed);
+    code
+}
+
+// The same, of which the bytes are recorded where it is sent, and why it failed, if it did.
+#[inline(always)]
+fn send_with_bytes(
+    service: &mut Service,
+    numbers: &LoanNumbers,
+    receivers: &mut usize,
+    blocked: &mut LoanNumbers,
+    failed: &mut Option<SendError>,
+) -> u32
+    ensures { SendReturns numbers.now service.old service.new receivers.old receivers.new blocked.old blocked.new result }
+{
+    let Some(loan) = written_loan(&service.domain, numbers, numbers.book) else {
+        return NOT_LIVE;
+    };
+    if loan.is_blocked(&service.domain) {
         loan.disown();
+        return PUBLISHER_IS_BLOCKED;
     }
+    let bytes = loan.payload(&service.domain);
+    service.recording.written(numbers, bytes);
+    let sent = loan.send(&mut service.domain);
+    *failed = error_of(&sent);
+    tell_of(sent, numbers, receivers, blocked)
 }
 
 /// Sends a copy of the bytes, and says how many subscribers took it.
@@ -169,15 +173,7 @@ pub fn send_copy(
     receivers: &mut usize,
     blocked: &mut LoanNumbers,
 ) -> u32
-    ensures code { result ≡ 1 → ⊥ }
-    ensures sent { result ≢ 2 → result ≢ 7 → (outcome : Result SendOutcome SendError) × (result ≡ sent_code outcome)
-        × (receivers.new ≡ receivers_of receivers.old outcome)
-        × SendsBytes service.old.domain service.new.domain (wide (numbers.now).id) bytes.now outcome }
-    ensures why { (result ≡ 2) ⊎ (result ≡ 7) → RefusesPublisher service.old.domain (named_publisher numbers.now) result × (service.new ≡ service.old) }
-    ensures waits { result ≡ 6 → IsBlockedKey service.new.domain (named_loan blocked.new) }
-    ensures same { result ≢ 6 → blocked.new ≡ blocked.old }
-    ensures same_count { (result ≡ 2) ⊎ (result ≡ 7) → receivers.new ≡ receivers.old }
-    ensures stays { ServesBut (A_sent_copy (wide (numbers.now).id) (nat_eq result 6)) service.old service.new }
+    ensures { SendCopyReturns numbers.now bytes.now service.old service.new receivers.old receivers.new blocked.old blocked.new result }
 {
     let publisher = match ready_publisher(&service.domain, numbers) {
         Ok(publisher) => publisher,
@@ -223,13 +219,7 @@ pub fn retry(
     elapsed: u64,
     receivers: &mut usize,
 ) -> u32
-    ensures code { result ≡ 1 → ⊥ }
-    ensures ends { (result ≡ 2 → ⊥) → (outcome : Result SendOutcome SendError) × (result ≡ sent_code outcome)
-        × (receivers.new ≡ receivers_of receivers.old outcome)
-        × BlockedSendRetries service.old.domain service.new.domain (wide (numbers.now).publisher) elapsed outcome }
-    ensures not_live { result ≡ 2 → (IsBlockedKey service.old.domain (named_loan numbers.now) → ⊥) × (service.new ≡ service.old) }
-    ensures same_count { result ≡ 2 → receivers.new ≡ receivers.old }
-    ensures stays { ServesBut (A_blocked_send (wide (numbers.now).publisher)) service.old service.new }
+    ensures { RetryReturns numbers.now elapsed service.old service.new receivers.old receivers.new result }
 {
     let Some(waiting) = service.domain.blocked_of(&numbers.parts()) else {
         service
@@ -249,13 +239,7 @@ pub fn retry(
 
 /// Gives up the subscriber for which a send waits.
 pub fn give_up(service: &mut Service, numbers: &LoanNumbers, receivers: &mut usize) -> u32
-    ensures code { result ≡ 1 → ⊥ }
-    ensures ends { (result ≡ 2 → ⊥) → (outcome : Result SendOutcome SendError) × (result ≡ sent_code outcome)
-        × (receivers.new ≡ receivers_of receivers.old outcome)
-        × BlockedSendGivesUp service.old.domain service.new.domain (wide (numbers.now).publisher) outcome }
-    ensures not_live { result ≡ 2 → (IsBlockedKey service.old.domain (named_loan numbers.now) → ⊥) × (service.new ≡ service.old) }
-    ensures same_count { result ≡ 2 → receivers.new ≡ receivers.old }
-    ensures stays { ServesBut (A_blocked_send (wide (numbers.now).publisher)) service.old service.new }
+    ensures { GiveUpReturns numbers.now service.old service.new receivers.old receivers.new result }
 {
     let Some(waiting) = service.domain.blocked_of(&numbers.parts()) else {
         service.recording.given_up(numbers, NOT_LIVE, 0, None);

@@ -6,8 +6,8 @@ ghost use Rattle.iox2_machine.specs.declared.key.Key.{Key};
 ghost use Rattle.iox2_machine.specs.machine.Receives.{Got_sample, No_sample, Receive_error};
 ghost use Rattle.iox2_pubsub.specs.Handles.{as_subscriber, buffer_size_of, origin_of, receiver_of, subscriber_id};
 ghost use Rattle.iox2_pubsub.specs.Slices.{SampleHasValues};
-ghost use Rattle.iox2_pubsub.specs.Live.{A_sample, A_subscriber, IsLiveSample, IsLiveSubscriber, IsNewIn};
-ghost use Rattle.iox2_pubsub.specs.Live.{IsSampleKey, IsSubscriberKey, No_item, sample_key, subscriber_key};
+ghost use Rattle.iox2_pubsub.specs.Live.{A_sample, A_subscriber, IsLiveSample, IsLiveSubscriber, IsNewIn, IsSampleKey, IsSubscriberKey, No_item};
+ghost use Rattle.iox2_pubsub.specs.Live.{sample_key, subscriber_key};
 ghost use Rattle.iox2_c.specs.Codes.{code_of, first_setting_code, receive_code, subscriber_code};
 ghost use Rattle.iox2_c.specs.Numbers.{named_sample, named_subscriber, wide};
 ghost use Rattle.iox2_c.specs.Returns.{ReceiveReturns};
@@ -17,24 +17,25 @@ ghost use Rattle.iox2_c.specs.Steps.{ClosesSubscriber, CreatesSubscriber, Subscr
 
 use crate::calls::samples;
 use crate::config::Config;
-use crate::handlers::NoHandler;
 use crate::numbers::{SampleNumbers, SubscriberNumbers};
 use crate::options::{SubscriberOptions, degradation_of};
 use crate::recording::subscriber_reply;
 use crate::service::{BytesDomain, Service};
 use crate::starts::start_of;
-use crate::status::{NO_SAMPLE, NOT_LIVE, OK, receive_status, subscriber_status};
+use crate::status::{
+    NO_DOMAIN, NO_SAMPLE, NOT_LIVE, OK, TOO_SMALL, receive_status, subscriber_status,
+};
 use iox2_pubsub::slice::{PortFactorySubscriber, Sample, Subscriber};
-use iox2_pubsub::{ReceiveError, SubscriberCreateError};
+use iox2_pubsub::{NoHandler, ReceiveError, SubscriberCreateError};
 
 /// Makes a subscriber, as the settings say.
 pub fn create(service: &mut Service, out: &mut SubscriberNumbers) -> u32
-    ensures creates { result ≡ 0 → CreatesSubscriber service.old.domain service.new.domain (plain_subscriber_settings service.old) (Ok out.new) }
-    ensures errors { 0 < result → (error : SubscriberCreateError) × (result ≡ subscriber_code error)
+    ensures creates { result ≡ OK → CreatesSubscriber service.old.domain service.new.domain (plain_subscriber_settings service.old) (Ok out.new) }
+    ensures errors { OK < result → (error : SubscriberCreateError) × (result ≡ subscriber_code error)
         × CreatesSubscriber service.old.domain service.new.domain (plain_subscriber_settings service.old) (Err error) }
-    ensures live { result ≡ 0 → IsSubscriberKey service.new.domain (named_subscriber out.new) }
-    ensures new { result ≡ 0 → IsNewIn service.old.domain (A_subscriber (wide (out.new).id)) }
-    ensures same { 0 < result → out.new ≡ out.old }
+    ensures live { result ≡ OK → IsSubscriberKey service.new.domain (named_subscriber out.new) }
+    ensures new { result ≡ OK → IsNewIn service.old.domain (A_subscriber (wide (out.new).id)) }
+    ensures same { OK < result → out.new ≡ out.old }
     ensures stays { ServesBut No_item service.old service.new }
 {
     let factory = service.domain.slice_subscriber_builder();
@@ -79,15 +80,15 @@ pub fn create_with(
     options: &SubscriberOptions,
     out: &mut SubscriberNumbers,
 ) -> u32
-    ensures creates { result ≡ 0 → CreatesSubscriber service.old.domain service.new.domain (subscriber_settings options.now) (Ok out.new) }
-    ensures errors { 0 < result → result < first_setting_code → (error : SubscriberCreateError)
+    ensures creates { result ≡ OK → CreatesSubscriber service.old.domain service.new.domain (subscriber_settings options.now) (Ok out.new) }
+    ensures errors { OK < result → result < first_setting_code → (error : SubscriberCreateError)
         × (result ≡ subscriber_code error)
         × CreatesSubscriber service.old.domain service.new.domain (subscriber_settings options.now) (Err error) }
     ensures valid { result < first_setting_code → invalid_subscriber_option options.now ≡ 0 }
     ensures invalid { first_setting_code ≤ result → (result ≡ invalid_subscriber_option options.now) × (service.new ≡ service.old) }
-    ensures live { result ≡ 0 → IsSubscriberKey service.new.domain (named_subscriber out.new) }
-    ensures new { result ≡ 0 → IsNewIn service.old.domain (A_subscriber (wide (out.new).id)) }
-    ensures same { 0 < result → out.new ≡ out.old }
+    ensures live { result ≡ OK → IsSubscriberKey service.new.domain (named_subscriber out.new) }
+    ensures new { result ≡ OK → IsNewIn service.old.domain (A_subscriber (wide (out.new).id)) }
+    ensures same { OK < result → out.new ≡ out.old }
     ensures stays { ServesBut No_item service.old service.new }
 {
     let invalid = options.first_invalid();
@@ -116,11 +117,11 @@ pub fn live_subscriber(domain: &BytesDomain, numbers: &SubscriberNumbers) -> Opt
 
 /// Closes a subscriber.
 pub fn close(service: &mut Service, numbers: &SubscriberNumbers) -> u32
-    ensures code { (result ≡ 0) ⊎ ((result ≡ 2) × (IsSubscriberKey service.old.domain (named_subscriber numbers.now) → ⊥)) }
-    ensures live { result ≡ 0 → IsSubscriberKey service.old.domain (named_subscriber numbers.now) }
-    ensures closed { result ≡ 0 → ClosesSubscriber service.old.domain service.new.domain (wide (numbers.now).id) }
+    ensures code { (result ≡ OK) ⊎ ((result ≡ NOT_LIVE) × (IsSubscriberKey service.old.domain (named_subscriber numbers.now) → ⊥)) }
+    ensures live { result ≡ OK → IsSubscriberKey service.old.domain (named_subscriber numbers.now) }
+    ensures closed { result ≡ OK → ClosesSubscriber service.old.domain service.new.domain (wide (numbers.now).id) }
     ensures spent { IsSubscriberKey service.new.domain (named_subscriber numbers.now) → ⊥ }
-    ensures refused { 0 < result → service.new ≡ service.old }
+    ensures refused { OK < result → service.new ≡ service.old }
     ensures stays { ServesBut (A_subscriber (wide (numbers.now).id)) service.old service.new }
 {
     let Some(subscriber) = live_subscriber(&service.domain, numbers) else {
@@ -194,7 +195,7 @@ fn tell_received(
     requires live { IsLiveSample service.now.domain sample }
     requires service { (sample_key sample).service_id ≡ wide (numbers.now).service_id }
     requires receiver { receiver_of sample ≡ wide (numbers.now).id }
-    ensures code { result ≡ 0 }
+    ensures code { result ≡ OK }
     ensures named { named_sample out.new ≡ sample_key sample }
     ensures origin { wide (out.new).origin ≡ origin_of sample }
     ensures length { (values : List ℕ) → SampleHasValues service.now.domain (sample_key sample) values → len.new ≡ length values }
@@ -223,7 +224,7 @@ fn payload_elsewhere(
     len: &mut usize,
 ) -> u32
     requires { IsSampleKey service.now.domain (named_sample numbers.now) }
-    ensures code { result ≡ 0 }
+    ensures code { result ≡ OK }
     ensures length { (values : List ℕ) → SampleHasValues service.now.domain (named_sample numbers.now) values → len.new ≡ length values }
 {
     samples::payload(service, numbers, out, len)
@@ -271,7 +272,11 @@ fn receive_recorded(
 fn record_sample(service: &mut Service, numbers: &SampleNumbers)
     ensures { service.new ≡ service.old }
 {
-    if let Some(sample) = samples::live_sample(&service.domain, numbers) {
+    let sample = match samples::sample_at_hint(&mut service.domain, numbers) {
+        Some(sample) => Some(sample),
+        None => samples::live_sample(&service.domain, numbers),
+    };
+    if let Some(sample) = sample {
         let bytes = sample.payload(&service.domain);
         service.recording.received(&sample, bytes);
         sample.disown();
@@ -287,23 +292,23 @@ pub fn receive_copy(
     len: &mut usize,
     out: &mut SampleNumbers,
 ) -> u32
-    ensures code { result ≡ 1 → ⊥ }
-    ensures copied { result ≡ 0 → (key : Key) × (key.port ≡ wide (numbers.now).id) × (origin : ℕ)
+    ensures code { result ≡ NO_DOMAIN → ⊥ }
+    ensures copied { result ≡ OK → (key : Key) × (key.port ≡ wide (numbers.now).id) × (origin : ℕ)
         × ReceivesCopy service.old.domain service.new.domain key origin (take len.new bytes.new) }
-    ensures fits { result ≡ 0 → len.new ≤ length bytes.old }
-    ensures kept { result ≡ 9 → SubscriberReceives service.old.domain service.new.domain (wide (numbers.now).id)
+    ensures fits { result ≡ OK → len.new ≤ length bytes.old }
+    ensures kept { result ≡ TOO_SMALL → SubscriberReceives service.old.domain service.new.domain (wide (numbers.now).id)
         (Got_sample (wide (out.new).origin) (wide (out.new).number)) }
-    ensures live { result ≡ 9 → IsSampleKey service.new.domain (named_sample out.new) }
-    ensures new { result ≡ 9 → IsNewIn service.old.domain (A_sample (wide (out.new).subscriber) (wide (out.new).number)) }
-    ensures small { result ≡ 9 → length bytes.old < len.new }
-    ensures length { result ≡ 9 → (values : List ℕ) → SampleHasValues service.new.domain (named_sample out.new) values → len.new ≡ length values }
-    ensures nothing { result ≡ 3 → SubscriberReceives service.old.domain service.new.domain (wide (numbers.now).id) No_sample }
-    ensures errors { 3 < result → result ≢ 9 → (error : ReceiveError) × (result ≡ receive_code error)
+    ensures live { result ≡ TOO_SMALL → IsSampleKey service.new.domain (named_sample out.new) }
+    ensures new { result ≡ TOO_SMALL → IsNewIn service.old.domain (A_sample (wide (out.new).subscriber) (wide (out.new).number)) }
+    ensures small { result ≡ TOO_SMALL → length bytes.old < len.new }
+    ensures length { result ≡ TOO_SMALL → (values : List ℕ) → SampleHasValues service.new.domain (named_sample out.new) values → len.new ≡ length values }
+    ensures nothing { result ≡ NO_SAMPLE → SubscriberReceives service.old.domain service.new.domain (wide (numbers.now).id) No_sample }
+    ensures errors { NO_SAMPLE < result → result ≢ TOO_SMALL → (error : ReceiveError) × (result ≡ receive_code error)
         × SubscriberReceives service.old.domain service.new.domain (wide (numbers.now).id) (Receive_error error) }
-    ensures not_live { result ≡ 2 → (IsSubscriberKey service.old.domain (named_subscriber numbers.now) → ⊥) × (service.new ≡ service.old) }
-    ensures same { 0 < result → bytes.new ≡ bytes.old }
-    ensures same_numbers { result ≢ 9 → out.new ≡ out.old }
-    ensures same_length { 0 < result → result ≢ 9 → len.new ≡ len.old }
+    ensures not_live { result ≡ NOT_LIVE → (IsSubscriberKey service.old.domain (named_subscriber numbers.now) → ⊥) × (service.new ≡ service.old) }
+    ensures same { OK < result → bytes.new ≡ bytes.old }
+    ensures same_numbers { result ≢ TOO_SMALL → out.new ≡ out.old }
+    ensures same_length { OK < result → result ≢ TOO_SMALL → len.new ≡ len.old }
     ensures stays { ServesBut No_item service.old service.new }
 {
     let Some(subscriber) = live_subscriber(&service.domain, numbers) else {

@@ -1,9 +1,8 @@
 //! The exports of calls that change the channels of connections.
-ghost use Rattle.std.specs.Prelude.{◌≡◌, ◌<◌, ◌↔◌, None};
-ghost use Rattle.iox2_pubsub.specs.Live.{IsPublisherKey, IsSubscriberKey, No_item};
-ghost use Rattle.iox2_c.specs.Boxed.{Becomes, HoldsOn, Knows};
-ghost use Rattle.iox2_c.specs.Channels.{ClosesReceived, ClosesSent, HintsReceived, RefusesPublisherChannel, RefusesSubscriberChannel, SetsState};
-ghost use Rattle.iox2_c.specs.Numbers.{named_publisher, named_subscriber, wide};
+ghost use Rattle.std.specs.Prelude.{◌≡◌};
+ghost use Rattle.iox2_c.specs.Boxed.{Lifted};
+ghost use Rattle.iox2_c.specs.ChannelReturns.{ChangeReturns, CloseReturns, SetStateReturns};
+ghost use Rattle.iox2_c.specs.declared.calls.channel_changes.ReceivedChange.TheVariants.{Close, Hint};
 
 use crate::calls::channel_changes::{self, ReceivedChange};
 use crate::domain_box::DomainBox;
@@ -19,14 +18,9 @@ pub extern "C" fn iox2ps_subscriber_set_channel_state(
     state: u64,
     were_closed: &mut u32,
 ) -> u32
-    ensures no_domain { (result ≡ 1) ↔ (domain.old.service ≡ None) }
-    ensures sets { result ≡ 0 → Becomes (λ old new. SetsState old new (wide (subscriber.now).id) channel state
-        were_closed.new) domain.old.service domain.new.service }
-    ensures live { result ≡ 0 → Knows (λ kept. IsSubscriberKey kept (named_subscriber subscriber.now)) domain.old.service }
-    ensures why { 1 < result → Knows (λ kept. RefusesSubscriberChannel kept (named_subscriber subscriber.now) channel result) domain.old.service }
-    ensures refused { 0 < result → domain.new.service ≡ domain.old.service }
-    ensures same { 0 < result → were_closed.new ≡ were_closed.old }
-    ensures stays { HoldsOn No_item domain.old.service domain.new.service }
+    ensures { Lifted (were_closed.new ≡ were_closed.old)
+        (λ old new. SetStateReturns subscriber.now channel state old new were_closed.old were_closed.new result)
+        domain.old.service domain.new.service result }
 {
     match domain.service() {
         Some(service) => channel_changes::set_state(
@@ -48,13 +42,9 @@ pub extern "C" fn iox2ps_subscriber_close_channel(
     channel: usize,
     expected: u64,
 ) -> u32
-    ensures no_domain { (result ≡ 1) ↔ (domain.old.service ≡ None) }
-    ensures closes { result ≡ 0 → Becomes (λ old new. ClosesReceived old new (wide (subscriber.now).id) channel
-        expected) domain.old.service domain.new.service }
-    ensures live { result ≡ 0 → Knows (λ kept. IsSubscriberKey kept (named_subscriber subscriber.now)) domain.old.service }
-    ensures why { 1 < result → Knows (λ kept. RefusesSubscriberChannel kept (named_subscriber subscriber.now) channel result) domain.old.service }
-    ensures refused { 0 < result → domain.new.service ≡ domain.old.service }
-    ensures stays { HoldsOn No_item domain.old.service domain.new.service }
+    ensures { Lifted (Unit {0})
+        (λ old new. ChangeReturns subscriber.now Close channel expected old new result)
+        domain.old.service domain.new.service result }
 {
     match domain.service() {
         Some(service) => channel_changes::change_received(
@@ -76,12 +66,9 @@ pub extern "C" fn iox2ps_subscriber_set_disconnect_hint(
     channel: usize,
     expected: u64,
 ) -> u32
-    ensures no_domain { (result ≡ 1) ↔ (domain.old.service ≡ None) }
-    ensures hints { result ≡ 0 → Becomes (λ old new. HintsReceived old new (wide (subscriber.now).id) channel expected) domain.old.service domain.new.service }
-    ensures live { result ≡ 0 → Knows (λ kept. IsSubscriberKey kept (named_subscriber subscriber.now)) domain.old.service }
-    ensures why { 1 < result → Knows (λ kept. RefusesSubscriberChannel kept (named_subscriber subscriber.now) channel result) domain.old.service }
-    ensures refused { 0 < result → domain.new.service ≡ domain.old.service }
-    ensures stays { HoldsOn No_item domain.old.service domain.new.service }
+    ensures { Lifted (Unit {0})
+        (λ old new. ChangeReturns subscriber.now Hint channel expected old new result)
+        domain.old.service domain.new.service result }
 {
     match domain.service() {
         Some(service) => channel_changes::change_received(
@@ -104,13 +91,9 @@ pub extern "C" fn iox2ps_publisher_close_channel(
     connection: usize,
     expected: u64,
 ) -> u32
-    ensures no_domain { (result ≡ 1) ↔ (domain.old.service ≡ None) }
-    ensures closes { result ≡ 0 → Becomes (λ old new. ClosesSent old new (wide (publisher.now).id) channel connection
-        expected) domain.old.service domain.new.service }
-    ensures live { result ≡ 0 → Knows (λ kept. IsPublisherKey kept (named_publisher publisher.now)) domain.old.service }
-    ensures why { 1 < result → Knows (λ kept. RefusesPublisherChannel kept (named_publisher publisher.now) channel result) domain.old.service }
-    ensures refused { 0 < result → domain.new.service ≡ domain.old.service }
-    ensures stays { HoldsOn No_item domain.old.service domain.new.service }
+    ensures { Lifted (Unit {0})
+        (λ old new. CloseReturns publisher.now channel connection expected old new result)
+        domain.old.service domain.new.service result }
 {
     match domain.service() {
         Some(service) => channel_changes::close_sent(

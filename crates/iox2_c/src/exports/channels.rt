@@ -1,9 +1,7 @@
 //! The exports of questions on the channels of connections.
-ghost use Rattle.std.specs.Prelude.{◌≡◌, ◌<◌, ◌↔◌, ◌⊎◌, None, Some};
-ghost use Rattle.iox2_pubsub.specs.Live.{IsPublisherKey, IsSubscriberKey};
-ghost use Rattle.iox2_c.specs.Boxed.{Knows, KnowsNo};
-ghost use Rattle.iox2_c.specs.Channels.{RefusesPublisherChannel, RefusesSubscriberChannel, TellsConnection, TellsHint, TellsSomeState, TellsState};
-ghost use Rattle.iox2_c.specs.Numbers.{named_publisher, named_subscriber, wide};
+ghost use Rattle.std.specs.Prelude.{◌≡◌};
+ghost use Rattle.iox2_c.specs.Boxed.{Lifted};
+ghost use Rattle.iox2_c.specs.ChannelReturns.{ConnectionReturns, HintReturns, SomeStateReturns, StateReturns};
 
 use crate::calls::channels;
 use crate::domain_box::DomainBox;
@@ -19,13 +17,9 @@ pub extern "C" fn iox2ps_subscriber_at_least_one_channel_has_state(
     state: u64,
     has_state: &mut u32,
 ) -> u32
-    ensures no_domain { (result ≡ 1) ↔ (domain.old.service ≡ None) }
-    ensures code { (result < 3) ⊎ (result ≡ 70) }
-    ensures tells { result ≡ 0 → Knows (λ kept. IsSubscriberKey kept (named_subscriber subscriber.now)
-        × TellsSomeState kept (wide (subscriber.now).id) channel state has_state.new) domain.old.service }
-    ensures why { 1 < result → Knows (λ kept. RefusesSubscriberChannel kept (named_subscriber subscriber.now) channel result) domain.old.service }
-    ensures same { 0 < result → has_state.new ≡ has_state.old }
-    ensures unchanged { domain.new.service ≡ domain.old.service }
+    ensures { Lifted (has_state.new ≡ has_state.old)
+        (λ old new. SomeStateReturns subscriber.now channel state old new has_state.old has_state.new result)
+        domain.old.service domain.new.service result }
 {
     match domain.service() {
         Some(service) => channels::some_has_state(service, subscriber, channel, state, has_state),
@@ -41,16 +35,9 @@ pub extern "C" fn iox2ps_publisher_get_connection_id_of(
     receiver_port_id: &Wide,
     connection: &mut usize,
 ) -> u32
-    ensures no_domain { (result ≡ 1) ↔ (domain.old.service ≡ None) }
-    ensures code { (result < 3) ⊎ (result ≡ 71) }
-    ensures tells { result ≡ 0 → Knows (λ kept. IsPublisherKey kept (named_publisher publisher.now)
-        × TellsConnection kept (wide (publisher.now).id) (wide receiver_port_id.now) (Some connection.new))
-        domain.old.service }
-    ensures none { result ≡ 71 → Knows (λ kept. IsPublisherKey kept (named_publisher publisher.now)
-        × TellsConnection kept (wide (publisher.now).id) (wide receiver_port_id.now) None) domain.old.service }
-    ensures not_live { result ≡ 2 → KnowsNo (λ kept. IsPublisherKey kept (named_publisher publisher.now)) domain.old.service }
-    ensures same { 0 < result → connection.new ≡ connection.old }
-    ensures unchanged { domain.new.service ≡ domain.old.service }
+    ensures { Lifted (connection.new ≡ connection.old)
+        (λ old new. ConnectionReturns publisher.now receiver_port_id.now old new connection.old connection.new result)
+        domain.old.service domain.new.service result }
 {
     match domain.service() {
         Some(service) => channels::connection_of(service, publisher, receiver_port_id, connection),
@@ -68,13 +55,9 @@ pub extern "C" fn iox2ps_publisher_has_channel_state(
     state: u64,
     has_state: &mut u32,
 ) -> u32
-    ensures no_domain { (result ≡ 1) ↔ (domain.old.service ≡ None) }
-    ensures code { (result < 3) ⊎ (result ≡ 70) }
-    ensures tells { result ≡ 0 → Knows (λ kept. IsPublisherKey kept (named_publisher publisher.now)
-        × TellsState kept (wide (publisher.now).id) channel connection state has_state.new) domain.old.service }
-    ensures why { 1 < result → Knows (λ kept. RefusesPublisherChannel kept (named_publisher publisher.now) channel result) domain.old.service }
-    ensures same { 0 < result → has_state.new ≡ has_state.old }
-    ensures unchanged { domain.new.service ≡ domain.old.service }
+    ensures { Lifted (has_state.new ≡ has_state.old)
+        (λ old new. StateReturns publisher.now channel connection state old new has_state.old has_state.new result)
+        domain.old.service domain.new.service result }
 {
     match domain.service() {
         Some(service) => channels::has_state(
@@ -94,13 +77,9 @@ pub extern "C" fn iox2ps_publisher_has_disconnect_hint(
     state: u64,
     has_hint: &mut u32,
 ) -> u32
-    ensures no_domain { (result ≡ 1) ↔ (domain.old.service ≡ None) }
-    ensures code { (result < 3) ⊎ (result ≡ 70) }
-    ensures tells { result ≡ 0 → Knows (λ kept. IsPublisherKey kept (named_publisher publisher.now)
-        × TellsHint kept (wide (publisher.now).id) channel connection state has_hint.new) domain.old.service }
-    ensures why { 1 < result → Knows (λ kept. RefusesPublisherChannel kept (named_publisher publisher.now) channel result) domain.old.service }
-    ensures same { 0 < result → has_hint.new ≡ has_hint.old }
-    ensures unchanged { domain.new.service ≡ domain.old.service }
+    ensures { Lifted (has_hint.new ≡ has_hint.old)
+        (λ old new. HintReturns publisher.now channel connection state old new has_hint.old has_hint.new result)
+        domain.old.service domain.new.service result }
 {
     match domain.service() {
         Some(service) => channels::has_hint(

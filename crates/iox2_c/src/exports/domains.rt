@@ -7,8 +7,8 @@ ghost use Rattle.iox2_machine.specs.machine.Ports.{default_publisher_settings, d
 ghost use Rattle.iox2_machine.specs.machine.State.{fresh, no_messages};
 ghost use Rattle.iox2_domain.specs.Shows.{Shows};
 ghost use Rattle.iox2_c.specs.Boxed.{Knows};
-ghost use Rattle.iox2_c.specs.Settings.{config_size, invalid_setting, publisher_options_size, settings_of_options};
-ghost use Rattle.iox2_c.specs.Settings.{settings_of, subscriber_options_size, subscriber_settings};
+ghost use Rattle.iox2_c.specs.Settings.{config_size, invalid_setting, publisher_options_size, settings_of_options, settings_of};
+ghost use Rattle.iox2_c.specs.Settings.{subscriber_options_size, subscriber_settings};
 ghost use Rattle.iox2_c.specs.Codes.{first_setting_code, worst_case_too_large};
 
 use crate::calls::questions;
@@ -19,7 +19,7 @@ use crate::options::{
 };
 use crate::recording::Room;
 use crate::service::Service;
-use crate::status::{HAS_DOMAIN, NO_DOMAIN, OK, OUT_OF_MEMORY, WORST_CASE_TOO_LARGE};
+use crate::status::{HAS_DOMAIN, NO_DOMAIN, OK, OUT_OF_MEMORY, TOO_SMALL, WORST_CASE_TOO_LARGE};
 use iox2_pubsub::worst_case_slots;
 use std::alloc::Global;
 
@@ -92,12 +92,12 @@ pub extern "C" fn iox2ps_subscriber_options_of_sized(
 /// How many slots a publisher with that many loans has.
 #[unsafe(no_mangle)]
 pub extern "C" fn iox2ps_worst_case_slots(config: &Config, loans: usize, slots: &mut usize) -> u32
-    ensures slots { result ≡ 0 → slots.new ≡ worst_case (settings_of config.now) loans }
-    ensures code { (result ≡ 0) ⊎ (first_setting_code ≤ result) }
-    ensures valid { (result ≡ 0) ⊎ (result ≡ worst_case_too_large) → invalid_setting config.now ≡ 0 }
-    ensures invalid { 0 < result → result ≢ worst_case_too_large → result ≡ invalid_setting config.now }
-    ensures fits { invalid_setting config.now ≡ 0 → (result ≡ 0) ↔ IsTrue (fits (worst_case (settings_of config.now) loans)) }
-    ensures same { 0 < result → slots.new ≡ slots.old }
+    ensures slots { result ≡ OK → slots.new ≡ worst_case (settings_of config.now) loans }
+    ensures code { (result ≡ OK) ⊎ (first_setting_code ≤ result) }
+    ensures valid { (result ≡ OK) ⊎ (result ≡ worst_case_too_large) → invalid_setting config.now ≡ 0 }
+    ensures invalid { OK < result → result ≢ worst_case_too_large → result ≡ invalid_setting config.now }
+    ensures fits { invalid_setting config.now ≡ 0 → (result ≡ OK) ↔ IsTrue (fits (worst_case (settings_of config.now) loans)) }
+    ensures same { OK < result → slots.new ≡ slots.old }
 {
     let invalid = config.first_invalid();
     if invalid != OK {
@@ -119,14 +119,14 @@ pub extern "C" fn iox2ps_domain_create(
     domain: &mut DomainBox,
     config: &Config,
 ) -> u32
-    ensures fresh { result ≡ 0 → Knows (λ kept. Shows kept no_messages (fresh (settings_of config.now))) domain.new.service }
-    ensures code { (result ≡ 0) ⊎ (result ≡ 4) ⊎ (result ≡ 5) ⊎ (first_setting_code ≤ result) }
-    ensures sizes { result ≡ 0 → IfSome domain.new.service
+    ensures fresh { result ≡ OK → Knows (λ kept. Shows kept no_messages (fresh (settings_of config.now))) domain.new.service }
+    ensures code { (result ≡ OK) ⊎ (result ≡ OUT_OF_MEMORY) ⊎ (result ≡ HAS_DOMAIN) ⊎ (first_setting_code ≤ result) }
+    ensures sizes { result ≡ OK → IfSome domain.new.service
         (λ it. (it.payload_size ≡ config.now.payload_size) × (it.payload_alignment ≡ config.now.payload_alignment)) }
-    ensures valid { (result ≡ 0) ⊎ (result ≡ 4) → invalid_setting config.now ≡ 0 }
-    ensures there { (result ≡ 5) ↔ (domain.old.service ≢ None) }
+    ensures valid { (result ≡ OK) ⊎ (result ≡ OUT_OF_MEMORY) → invalid_setting config.now ≡ 0 }
+    ensures there { (result ≡ HAS_DOMAIN) ↔ (domain.old.service ≢ None) }
     ensures invalid { first_setting_code ≤ result → result ≡ invalid_setting config.now }
-    ensures refused { 0 < result → domain.new.service ≡ domain.old.service }
+    ensures refused { OK < result → domain.new.service ≡ domain.old.service }
 {
     create(alloc, domain, config, None)
 }
@@ -141,28 +141,28 @@ pub extern "C" fn iox2ps_domain_create_recorded(
     commands: usize,
     bytes: usize,
 ) -> u32
-    ensures fresh { result ≡ 0 → Knows (λ kept. Shows kept no_messages (fresh (settings_of config.now))) domain.new.service }
-    ensures code { (result ≡ 0) ⊎ (result ≡ 4) ⊎ (result ≡ 5) ⊎ (first_setting_code ≤ result) }
-    ensures sizes { result ≡ 0 → IfSome domain.new.service
+    ensures fresh { result ≡ OK → Knows (λ kept. Shows kept no_messages (fresh (settings_of config.now))) domain.new.service }
+    ensures code { (result ≡ OK) ⊎ (result ≡ OUT_OF_MEMORY) ⊎ (result ≡ HAS_DOMAIN) ⊎ (first_setting_code ≤ result) }
+    ensures sizes { result ≡ OK → IfSome domain.new.service
         (λ it. (it.payload_size ≡ config.now.payload_size) × (it.payload_alignment ≡ config.now.payload_alignment)) }
-    ensures valid { (result ≡ 0) ⊎ (result ≡ 4) → invalid_setting config.now ≡ 0 }
-    ensures there { (result ≡ 5) ↔ (domain.old.service ≢ None) }
+    ensures valid { (result ≡ OK) ⊎ (result ≡ OUT_OF_MEMORY) → invalid_setting config.now ≡ 0 }
+    ensures there { (result ≡ HAS_DOMAIN) ↔ (domain.old.service ≢ None) }
     ensures invalid { first_setting_code ≤ result → result ≡ invalid_setting config.now }
-    ensures refused { 0 < result → domain.new.service ≡ domain.old.service }
+    ensures refused { OK < result → domain.new.service ≡ domain.old.service }
 {
     create(alloc, domain, config, Some(Room { commands, bytes }))
 }
 
 // Makes a domain where there is none, which is recorded where there is room for that.
 fn create(alloc: Global, domain: &mut DomainBox, config: &Config, room: Option<Room>) -> u32
-    ensures fresh { result ≡ 0 → Knows (λ kept. Shows kept no_messages (fresh (settings_of config.now))) domain.new.service }
-    ensures code { (result ≡ 0) ⊎ (result ≡ 4) ⊎ (result ≡ 5) ⊎ (first_setting_code ≤ result) }
-    ensures sizes { result ≡ 0 → IfSome domain.new.service
+    ensures fresh { result ≡ OK → Knows (λ kept. Shows kept no_messages (fresh (settings_of config.now))) domain.new.service }
+    ensures code { (result ≡ OK) ⊎ (result ≡ OUT_OF_MEMORY) ⊎ (result ≡ HAS_DOMAIN) ⊎ (first_setting_code ≤ result) }
+    ensures sizes { result ≡ OK → IfSome domain.new.service
         (λ it. (it.payload_size ≡ config.now.payload_size) × (it.payload_alignment ≡ config.now.payload_alignment)) }
-    ensures valid { (result ≡ 0) ⊎ (result ≡ 4) → invalid_setting config.now ≡ 0 }
-    ensures there { (result ≡ 5) ↔ (domain.old.service ≢ None) }
+    ensures valid { (result ≡ OK) ⊎ (result ≡ OUT_OF_MEMORY) → invalid_setting config.now ≡ 0 }
+    ensures there { (result ≡ HAS_DOMAIN) ↔ (domain.old.service ≢ None) }
     ensures invalid { first_setting_code ≤ result → result ≡ invalid_setting config.now }
-    ensures refused { 0 < result → domain.new.service ≡ domain.old.service }
+    ensures refused { OK < result → domain.new.service ≡ domain.old.service }
 {
     if let Some(boxed) = domain.take(alloc) {
         domain.put(boxed);
@@ -191,12 +191,12 @@ pub extern "C" fn iox2ps_domain_recording(
     len: &mut usize,
     missed: &mut u64,
 ) -> u32
-    ensures no_domain { (result ≡ 1) ↔ (domain.old.service ≡ None) }
-    ensures code { (result ≡ 0) ⊎ (result ≡ 1) ⊎ (result ≡ 4) ⊎ (result ≡ 9) }
-    ensures fits { result ≡ 0 → len.new ≤ length bytes.old }
-    ensures small { result ≡ 9 → length bytes.old < len.new }
-    ensures rest { result ≡ 0 → drop len.new bytes.new ≡ drop len.new bytes.old }
-    ensures same { 0 < result → bytes.new ≡ bytes.old }
+    ensures no_domain { (result ≡ NO_DOMAIN) ↔ (domain.old.service ≡ None) }
+    ensures code { (result ≡ OK) ⊎ (result ≡ NO_DOMAIN) ⊎ (result ≡ OUT_OF_MEMORY) ⊎ (result ≡ TOO_SMALL) }
+    ensures fits { result ≡ OK → len.new ≤ length bytes.old }
+    ensures small { result ≡ TOO_SMALL → length bytes.old < len.new }
+    ensures rest { result ≡ OK → drop len.new bytes.new ≡ drop len.new bytes.old }
+    ensures same { OK < result → bytes.new ≡ bytes.old }
     ensures unchanged { domain.new.service ≡ domain.old.service }
 {
     match domain.service() {
@@ -208,9 +208,9 @@ pub extern "C" fn iox2ps_domain_recording(
 /// Frees the domain, with all that is in it.
 #[unsafe(no_mangle)]
 pub extern "C" fn iox2ps_domain_destroy(alloc: Global, domain: &mut DomainBox) -> u32
-    ensures code { (result ≡ 0) ⊎ (result ≡ 1) }
+    ensures code { (result ≡ OK) ⊎ (result ≡ NO_DOMAIN) }
     ensures gone { domain.new.service ≡ None }
-    ensures no_domain { (result ≡ 1) ↔ (domain.old.service ≡ None) }
+    ensures no_domain { (result ≡ NO_DOMAIN) ↔ (domain.old.service ≡ None) }
 {
     match domain.take(alloc) {
         Some(_) => OK,

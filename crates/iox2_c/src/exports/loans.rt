@@ -10,17 +10,17 @@ ghost use Rattle.iox2_c.specs.Steps.{Discards};
 use crate::calls::loans;
 use crate::domain_box::DomainBox;
 use crate::numbers::LoanNumbers;
-use crate::status::NO_DOMAIN;
+use crate::status::{NO_DOMAIN, OK};
 
 /// Gives a loan back unsent.
 #[unsafe(no_mangle)]
 pub extern "C" fn iox2ps_loan_discard(domain: &mut DomainBox, loan: &LoanNumbers) -> u32
-    ensures no_domain { (result ≡ 1) ↔ (domain.old.service ≡ None) }
-    ensures out { result ≡ 0 → Knows (λ kept. IsOut kept (named_loan loan.now)) domain.old.service }
-    ensures discards { result ≡ 0 → Becomes (λ old new. Discards old new (wide (loan.now).number)) domain.old.service domain.new.service }
-    ensures spent { result ≡ 0 → KnowsNo (λ kept. IsLoanKey kept (named_loan loan.now)) domain.new.service }
-    ensures why { 1 < result → Knows (λ kept. IsRefusedLoan kept (named_loan loan.now) result) domain.old.service }
-    ensures refused { 0 < result → domain.new.service ≡ domain.old.service }
+    ensures no_domain { (result ≡ NO_DOMAIN) ↔ (domain.old.service ≡ None) }
+    ensures out { result ≡ OK → Knows (λ kept. IsOut kept (named_loan loan.now)) domain.old.service }
+    ensures discards { result ≡ OK → Becomes (λ old new. Discards old new (wide (loan.now).number)) domain.old.service domain.new.service }
+    ensures spent { result ≡ OK → KnowsNo (λ kept. IsLoanKey kept (named_loan loan.now)) domain.new.service }
+    ensures why { NO_DOMAIN < result → Knows (λ kept. IsRefusedLoan kept (named_loan loan.now) result) domain.old.service }
+    ensures refused { OK < result → domain.new.service ≡ domain.old.service }
     ensures stays { HoldsOn (A_loan (wide (loan.now).number)) domain.old.service domain.new.service }
 {
     match domain.service() {
@@ -37,12 +37,12 @@ pub extern "C" fn iox2ps_loan_payload(
     payload: &mut *mut u8,
     len: &mut usize,
 ) -> u32
-    ensures no_domain { (result ≡ 1) ↔ (domain.old.service ≡ None) }
-    ensures out { result ≡ 0 → Knows (λ kept. IsOut kept (named_loan loan.now)) domain.old.service }
-    ensures why { 1 < result → Knows (λ kept. IsRefusedLoan kept (named_loan loan.now) result) domain.old.service }
-    ensures length { result ≡ 0 → Knows (λ kept. (values : List ℕ) → HasValues kept (wide (loan.now).number) values
+    ensures no_domain { (result ≡ NO_DOMAIN) ↔ (domain.old.service ≡ None) }
+    ensures out { result ≡ OK → Knows (λ kept. IsOut kept (named_loan loan.now)) domain.old.service }
+    ensures why { NO_DOMAIN < result → Knows (λ kept. IsRefusedLoan kept (named_loan loan.now) result) domain.old.service }
+    ensures length { result ≡ OK → Knows (λ kept. (values : List ℕ) → HasValues kept (wide (loan.now).number) values
         → len.new ≡ length values) domain.old.service }
-    ensures same { 0 < result → len.new ≡ len.old }
+    ensures same { OK < result → len.new ≡ len.old }
     ensures unchanged { domain.new.service ≡ domain.old.service }
 {
     match domain.service() {

@@ -1,21 +1,21 @@
 //! The exports of publishers.
 ghost use Rattle.std.specs.Prelude.{◌≡◌, ◌<◌, ◌↔◌, None, ◌≢◌, ◌≤◌, ◌⊎◌, Err, IfSome, Ok};
-ghost use Rattle.iox2_machine.specs.declared.errors.LoanError.{LoanError};
 ghost use Rattle.iox2_machine.specs.declared.errors.PublisherCreateError.{PublisherCreateError};
-ghost use Rattle.iox2_pubsub.specs.Live.{A_loan, A_publisher, IsNewIn, IsPublisherKey, No_item};
-ghost use Rattle.iox2_c.specs.Boxed.{Becomes, HoldsOn, Knows, KnowsNo, HoldsFromOldToNew};
-ghost use Rattle.iox2_c.specs.Calls.{IsOut, IsReadyKey, RefusesPublisher};
-ghost use Rattle.iox2_c.specs.Codes.{first_setting_code, loan_code, publisher_code};
-ghost use Rattle.iox2_c.specs.Numbers.{named_loan, named_publisher, wide};
+ghost use Rattle.iox2_pubsub.specs.Live.{A_publisher, IsNewIn, IsPublisherKey, No_item};
+ghost use Rattle.iox2_c.specs.Boxed.{Becomes, HoldsFromOldToNew, HoldsOn, Knows, KnowsNo, Lifted};
+ghost use Rattle.iox2_c.specs.Calls.{IsReadyKey, RefusesPublisher};
+ghost use Rattle.iox2_c.specs.Codes.{first_setting_code, publisher_code};
+ghost use Rattle.iox2_c.specs.Numbers.{named_publisher, wide};
 ghost use Rattle.iox2_c.specs.Settings.{ReadsSettings, invalid_publisher_option, plain_publisher_settings, settings_of_options};
 ghost use Rattle.iox2_c.specs.Steps.{ClosesPublisher, CreatesPublisher, Lends, LendsUninit};
+ghost use Rattle.iox2_c.specs.Returns.{LoanReturns};
 
 use crate::calls::lending::{self, Unspecified, Zeros};
 use crate::calls::publishers;
 use crate::domain_box::DomainBox;
 use crate::numbers::{LoanNumbers, PublisherNumbers};
 use crate::options::PublisherOptions;
-use crate::status::NO_DOMAIN;
+use crate::status::{NO_DOMAIN, OK};
 
 /// Makes a publisher, as the settings say.
 #[unsafe(no_mangle)]
@@ -23,17 +23,17 @@ pub extern "C" fn iox2ps_publisher_create(
     domain: &mut DomainBox,
     publisher: &mut PublisherNumbers,
 ) -> u32
-    ensures no_domain { (result ≡ 1) ↔ (domain.old.service ≡ None) }
-    ensures creates { result ≡ 0 → HoldsFromOldToNew
+    ensures no_domain { (result ≡ NO_DOMAIN) ↔ (domain.old.service ≡ None) }
+    ensures creates { result ≡ OK → HoldsFromOldToNew
         (λ old new. CreatesPublisher old.domain new.domain (plain_publisher_settings old)
         (Ok (wide (publisher.new).id)) × ReadsSettings publisher.new (plain_publisher_settings old))
         domain.old.service domain.new.service }
-    ensures errors { 1 < result → (error : PublisherCreateError) × (result ≡ publisher_code error)
+    ensures errors { NO_DOMAIN < result → (error : PublisherCreateError) × (result ≡ publisher_code error)
         × HoldsFromOldToNew (λ old new. CreatesPublisher old.domain new.domain (plain_publisher_settings old)
         (Err error)) domain.old.service domain.new.service }
-    ensures ready { result ≡ 0 → Knows (λ kept. IsReadyKey kept (named_publisher publisher.new)) domain.new.service }
-    ensures new { result ≡ 0 → Knows (λ kept. IsNewIn kept (A_publisher (wide (publisher.new).id))) domain.old.service }
-    ensures same { 0 < result → publisher.new ≡ publisher.old }
+    ensures ready { result ≡ OK → Knows (λ kept. IsReadyKey kept (named_publisher publisher.new)) domain.new.service }
+    ensures new { result ≡ OK → Knows (λ kept. IsNewIn kept (A_publisher (wide (publisher.new).id))) domain.old.service }
+    ensures same { OK < result → publisher.new ≡ publisher.old }
     ensures stays { HoldsOn No_item domain.old.service domain.new.service }
 {
     match domain.service() {
@@ -49,21 +49,22 @@ pub extern "C" fn iox2ps_publisher_create_with(
     options: &PublisherOptions,
     publisher: &mut PublisherNumbers,
 ) -> u32
-    ensures no_domain { (result ≡ 1) ↔ (domain.old.service ≡ None) }
-    ensures creates { result ≡ 0 → HoldsFromOldToNew
+    ensures no_domain { (result ≡ NO_DOMAIN) ↔ (domain.old.service ≡ None) }
+    ensures creates { result ≡ OK → HoldsFromOldToNew
         (λ old new. CreatesPublisher old.domain new.domain (settings_of_options (old.domain).config options.now)
         (Ok (wide (publisher.new).id))
         × ReadsSettings publisher.new (settings_of_options (old.domain).config options.now)) domain.old.service
         domain.new.service }
-    ensures errors { 1 < result → result < first_setting_code → (error : PublisherCreateError) × (result ≡ publisher_code error)
+    ensures errors { NO_DOMAIN < result → result < first_setting_code → (error : PublisherCreateError) × (result ≡ publisher_code error)
         × HoldsFromOldToNew (λ old new. CreatesPublisher old.domain new.domain
         (settings_of_options (old.domain).config options.now) (Err error)) domain.old.service domain.new.service }
-    ensures valid { result ≢ 1 → result < first_setting_code → IfSome domain.old.service (λ it. invalid_publisher_option it.payload_alignment options.now ≡ 0) }
+    ensures valid { result ≢ NO_DOMAIN → result < first_setting_code
+        → IfSome domain.old.service (λ it. invalid_publisher_option it.payload_alignment options.now ≡ 0) }
     ensures invalid { first_setting_code ≤ result → IfSome domain.old.service (λ it. result ≡ invalid_publisher_option it.payload_alignment options.now) }
-    ensures refused { (result ≡ 1) ⊎ (first_setting_code ≤ result) → domain.new.service ≡ domain.old.service }
-    ensures ready { result ≡ 0 → Knows (λ kept. IsReadyKey kept (named_publisher publisher.new)) domain.new.service }
-    ensures new { result ≡ 0 → Knows (λ kept. IsNewIn kept (A_publisher (wide (publisher.new).id))) domain.old.service }
-    ensures same { 0 < result → publisher.new ≡ publisher.old }
+    ensures refused { (result ≡ NO_DOMAIN) ⊎ (first_setting_code ≤ result) → domain.new.service ≡ domain.old.service }
+    ensures ready { result ≡ OK → Knows (λ kept. IsReadyKey kept (named_publisher publisher.new)) domain.new.service }
+    ensures new { result ≡ OK → Knows (λ kept. IsNewIn kept (A_publisher (wide (publisher.new).id))) domain.old.service }
+    ensures same { OK < result → publisher.new ≡ publisher.old }
     ensures stays { HoldsOn No_item domain.old.service domain.new.service }
 {
     match domain.service() {
@@ -78,12 +79,12 @@ pub extern "C" fn iox2ps_publisher_close(
     domain: &mut DomainBox,
     publisher: &PublisherNumbers,
 ) -> u32
-    ensures no_domain { (result ≡ 1) ↔ (domain.old.service ≡ None) }
-    ensures ready { result ≡ 0 → Knows (λ kept. IsReadyKey kept (named_publisher publisher.now)) domain.old.service }
-    ensures closed { result ≡ 0 → Becomes (λ old new. ClosesPublisher old new (wide (publisher.now).id)) domain.old.service domain.new.service }
-    ensures spent { result ≡ 0 → KnowsNo (λ kept. IsPublisherKey kept (named_publisher publisher.now)) domain.new.service }
-    ensures why { 1 < result → Knows (λ kept. RefusesPublisher kept (named_publisher publisher.now) result) domain.old.service }
-    ensures refused { 0 < result → domain.new.service ≡ domain.old.service }
+    ensures no_domain { (result ≡ NO_DOMAIN) ↔ (domain.old.service ≡ None) }
+    ensures ready { result ≡ OK → Knows (λ kept. IsReadyKey kept (named_publisher publisher.now)) domain.old.service }
+    ensures closed { result ≡ OK → Becomes (λ old new. ClosesPublisher old new (wide (publisher.now).id)) domain.old.service domain.new.service }
+    ensures spent { result ≡ OK → KnowsNo (λ kept. IsPublisherKey kept (named_publisher publisher.now)) domain.new.service }
+    ensures why { NO_DOMAIN < result → Knows (λ kept. RefusesPublisher kept (named_publisher publisher.now) result) domain.old.service }
+    ensures refused { OK < result → domain.new.service ≡ domain.old.service }
     ensures stays { HoldsOn (A_publisher (wide (publisher.now).id)) domain.old.service domain.new.service }
 {
     match domain.service() {
@@ -101,17 +102,9 @@ pub extern "C" fn iox2ps_publisher_loan(
     loan: &mut LoanNumbers,
     payload: &mut *mut u8,
 ) -> u32
-    ensures no_domain { (result ≡ 1) ↔ (domain.old.service ≡ None) }
-    ensures lends { result ≡ 0 → Becomes (λ old new. Lends old new (wide (publisher.now).id) len (Ok tt)) domain.old.service domain.new.service }
-    ensures errors { 10 ≤ result → (error : LoanError) × (result ≡ loan_code error)
-        × Becomes (λ old new. Lends old new (wide (publisher.now).id) len (Err error)) domain.old.service
-        domain.new.service }
-    ensures why { 1 < result → result < 10 → Knows (λ kept. RefusesPublisher kept (named_publisher publisher.now) result) domain.old.service }
-    ensures refused { 0 < result → result < 10 → domain.new.service ≡ domain.old.service }
-    ensures out { result ≡ 0 → Knows (λ kept. IsOut kept (named_loan loan.new)) domain.new.service }
-    ensures new { result ≡ 0 → Knows (λ kept. IsNewIn kept (A_loan (wide (loan.new).number))) domain.old.service }
-    ensures same { 0 < result → loan.new ≡ loan.old }
-    ensures stays { HoldsOn No_item domain.old.service domain.new.service }
+    ensures { Lifted (loan.new ≡ loan.old)
+        (λ old new. LoanReturns Lends publisher.now len old new loan.old loan.new result)
+        domain.old.service domain.new.service result }
 {
     match domain.service() {
         Some(service) => lending::loan::<Zeros>(service, publisher, len, loan, payload),
@@ -129,17 +122,9 @@ pub extern "C" fn iox2ps_publisher_loan_uninit(
     loan: &mut LoanNumbers,
     payload: &mut *mut u8,
 ) -> u32
-    ensures no_domain { (result ≡ 1) ↔ (domain.old.service ≡ None) }
-    ensures lends { result ≡ 0 → Becomes (λ old new. LendsUninit old new (wide (publisher.now).id) len (Ok tt)) domain.old.service domain.new.service }
-    ensures errors { 10 ≤ result → (error : LoanError) × (result ≡ loan_code error)
-        × Becomes (λ old new. LendsUninit old new (wide (publisher.now).id) len (Err error)) domain.old.service
-        domain.new.service }
-    ensures why { 1 < result → result < 10 → Knows (λ kept. RefusesPublisher kept (named_publisher publisher.now) result) domain.old.service }
-    ensures refused { 0 < result → result < 10 → domain.new.service ≡ domain.old.service }
-    ensures out { result ≡ 0 → Knows (λ kept. IsOut kept (named_loan loan.new)) domain.new.service }
-    ensures new { result ≡ 0 → Knows (λ kept. IsNewIn kept (A_loan (wide (loan.new).number))) domain.old.service }
-    ensures same { 0 < result → loan.new ≡ loan.old }
-    ensures stays { HoldsOn No_item domain.old.service domain.new.service }
+    ensures { Lifted (loan.new ≡ loan.old)
+        (λ old new. LoanReturns LendsUninit publisher.now len old new loan.old loan.new result)
+        domain.old.service domain.new.service result }
 {
     match domain.service() {
         Some(service) => lending::loan::<Unspecified>(service, publisher, len, loan, payload),

@@ -10,7 +10,7 @@ ghost use Rattle.iox2_pubsub.specs.Live.{IsBlockedKey, IsPublisherKey, IsSubscri
 ghost use Rattle.iox2_c.specs.Boxed.{Becomes, HoldsOn, Knows, KnowsNo};
 ghost use Rattle.iox2_c.specs.Calls.{RefusesPublisher};
 ghost use Rattle.iox2_c.specs.Channels.{TellsBlocker};
-ghost use Rattle.iox2_c.specs.Codes.{code_of, failure_code, invalid_struct_size};
+ghost use Rattle.iox2_c.specs.Codes.{code_of, failure_code, first_error_code, invalid_struct_size};
 ghost use Rattle.iox2_c.specs.Numbers.{named_loan, named_publisher, named_subscriber, wide};
 ghost use Rattle.iox2_c.specs.Settings.{config_size, settings_in, settings_of};
 ghost use Rattle.iox2_c.specs.Texts.{text_numbered};
@@ -21,7 +21,7 @@ use crate::calls::questions;
 use crate::config::Config;
 use crate::domain_box::DomainBox;
 use crate::numbers::{LoanNumbers, PublisherNumbers, SubscriberNumbers, Wide};
-use crate::status::NO_DOMAIN;
+use crate::status::{NO_DOMAIN, NO_SAMPLE, NOT_LIVE, OK};
 use crate::texts::text_of;
 use crate::warning::WarningNumbers;
 use std::ptr;
@@ -51,13 +51,14 @@ pub extern "C" fn iox2ps_publisher_update_connections(
     domain: &mut DomainBox,
     publisher: &PublisherNumbers,
 ) -> u32
-    ensures no_domain { (result ≡ 1) ↔ (domain.old.service ≡ None) }
-    ensures updates { (result ≡ 0) ⊎ (10 ≤ result) → (updated : Result (Unit {0}) ConnectionFailure)
+    ensures no_domain { (result ≡ NO_DOMAIN) ↔ (domain.old.service ≡ None) }
+    ensures updates { (result ≡ OK) ⊎ (first_error_code ≤ result) → (updated : Result (Unit {0}) ConnectionFailure)
         × (result ≡ code_of failure_code updated)
         × Becomes (λ old new. PublisherUpdates old new (wide (publisher.now).id) updated) domain.old.service
         domain.new.service }
-    ensures why { 1 < result → result < 10 → Knows (λ kept. RefusesPublisher kept (named_publisher publisher.now) result) domain.old.service }
-    ensures refused { 0 < result → result < 10 → domain.new.service ≡ domain.old.service }
+    ensures why { NO_DOMAIN < result → result < first_error_code
+        → Knows (λ kept. RefusesPublisher kept (named_publisher publisher.now) result) domain.old.service }
+    ensures refused { OK < result → result < first_error_code → domain.new.service ≡ domain.old.service }
     ensures stays { HoldsOn No_item domain.old.service domain.new.service }
 {
     match domain.service() {
@@ -72,13 +73,13 @@ pub extern "C" fn iox2ps_subscriber_update_connections(
     domain: &mut DomainBox,
     subscriber: &SubscriberNumbers,
 ) -> u32
-    ensures no_domain { (result ≡ 1) ↔ (domain.old.service ≡ None) }
-    ensures updates { (result ≡ 0) ⊎ (2 < result) → (updated : Result (Unit {0}) ConnectionFailure)
+    ensures no_domain { (result ≡ NO_DOMAIN) ↔ (domain.old.service ≡ None) }
+    ensures updates { (result ≡ OK) ⊎ (NOT_LIVE < result) → (updated : Result (Unit {0}) ConnectionFailure)
         × (result ≡ code_of failure_code updated)
         × Becomes (λ old new. SubscriberUpdates old new (wide (subscriber.now).id) updated) domain.old.service
         domain.new.service }
-    ensures not_live { result ≡ 2 → KnowsNo (λ kept. IsSubscriberKey kept (named_subscriber subscriber.now)) domain.old.service }
-    ensures refused { result ≡ 2 → domain.new.service ≡ domain.old.service }
+    ensures not_live { result ≡ NOT_LIVE → KnowsNo (λ kept. IsSubscriberKey kept (named_subscriber subscriber.now)) domain.old.service }
+    ensures refused { result ≡ NOT_LIVE → domain.new.service ≡ domain.old.service }
     ensures stays { HoldsOn No_item domain.old.service domain.new.service }
 {
     match domain.service() {
@@ -94,13 +95,13 @@ pub extern "C" fn iox2ps_subscriber_has_samples(
     subscriber: &SubscriberNumbers,
     waits: &mut u32,
 ) -> u32
-    ensures no_domain { (result ≡ 1) ↔ (domain.old.service ≡ None) }
-    ensures answers { (result ≡ 0) ⊎ (2 < result) → (answer : Result Bool ConnectionFailure)
+    ensures no_domain { (result ≡ NO_DOMAIN) ↔ (domain.old.service ≡ None) }
+    ensures answers { (result ≡ OK) ⊎ (NOT_LIVE < result) → (answer : Result Bool ConnectionFailure)
         × (result ≡ code_of failure_code answer) × IfOk answer (λ some_wait. waits.new ≡ cond some_wait 1 0)
         × Becomes (λ old new. Asks old new (wide (subscriber.now).id) answer) domain.old.service domain.new.service }
-    ensures not_live { result ≡ 2 → KnowsNo (λ kept. IsSubscriberKey kept (named_subscriber subscriber.now)) domain.old.service }
-    ensures refused { result ≡ 2 → domain.new.service ≡ domain.old.service }
-    ensures same { 0 < result → waits.new ≡ waits.old }
+    ensures not_live { result ≡ NOT_LIVE → KnowsNo (λ kept. IsSubscriberKey kept (named_subscriber subscriber.now)) domain.old.service }
+    ensures refused { result ≡ NOT_LIVE → domain.new.service ≡ domain.old.service }
+    ensures same { OK < result → waits.new ≡ waits.old }
     ensures stays { HoldsOn No_item domain.old.service domain.new.service }
 {
     match domain.service() {
@@ -116,13 +117,13 @@ pub extern "C" fn iox2ps_publisher_is_blocked(
     publisher: &PublisherNumbers,
     is_blocked: &mut u32,
 ) -> u32
-    ensures no_domain { (result ≡ 1) ↔ (domain.old.service ≡ None) }
-    ensures code { result < 3 }
-    ensures not_live { result ≡ 2 → KnowsNo (λ kept. IsPublisherKey kept (named_publisher publisher.now)) domain.old.service }
-    ensures tells { result ≡ 0 → Knows (λ kept. IsPublisherKey kept (named_publisher publisher.now)
+    ensures no_domain { (result ≡ NO_DOMAIN) ↔ (domain.old.service ≡ None) }
+    ensures code { result < NO_SAMPLE }
+    ensures not_live { result ≡ NOT_LIVE → KnowsNo (λ kept. IsPublisherKey kept (named_publisher publisher.now)) domain.old.service }
+    ensures tells { result ≡ OK → Knows (λ kept. IsPublisherKey kept (named_publisher publisher.now)
         × ((is_blocked.new ≡ 0) ↔ IsUnblocked kept (named_publisher publisher.now))) domain.old.service }
-    ensures answer { result ≡ 0 → (is_blocked.new ≡ 0) ⊎ (is_blocked.new ≡ 1) }
-    ensures same { 0 < result → is_blocked.new ≡ is_blocked.old }
+    ensures answer { result ≡ OK → (is_blocked.new ≡ 0) ⊎ (is_blocked.new ≡ 1) }
+    ensures same { OK < result → is_blocked.new ≡ is_blocked.old }
     ensures unchanged { domain.new.service ≡ domain.old.service }
 {
     match domain.service() {
@@ -138,13 +139,13 @@ pub extern "C" fn iox2ps_domain_warning(
     index: usize,
     warning: &mut WarningNumbers,
 ) -> u32
-    ensures no_domain { (result ≡ 1) ↔ (domain.old.service ≡ None) }
-    ensures code { result < 3 }
-    ensures reads { result ≡ 0 → Knows (λ kept. IfSome
+    ensures no_domain { (result ≡ NO_DOMAIN) ↔ (domain.old.service ≡ None) }
+    ensures code { result < NO_SAMPLE }
+    ensures reads { result ≡ OK → Knows (λ kept. IfSome
         (slice_get (buffer (kept.warnings).latest warning_limit).items index) (λ it. TellsOf it warning.new))
         domain.old.service }
-    ensures none { result ≡ 2 → Knows (λ kept. slice_get (buffer (kept.warnings).latest warning_limit).items index ≡ None) domain.old.service }
-    ensures same { 0 < result → warning.new ≡ warning.old }
+    ensures none { result ≡ NOT_LIVE → Knows (λ kept. slice_get (buffer (kept.warnings).latest warning_limit).items index ≡ None) domain.old.service }
+    ensures same { OK < result → warning.new ≡ warning.old }
     ensures unchanged { domain.new.service ≡ domain.old.service }
 {
     match domain.service() {
@@ -156,10 +157,10 @@ pub extern "C" fn iox2ps_domain_warning(
 /// How many of its last warnings the domain has.
 #[unsafe(no_mangle)]
 pub extern "C" fn iox2ps_domain_warning_count(domain: &mut DomainBox, count: &mut usize) -> u32
-    ensures no_domain { (result ≡ 1) ↔ (domain.old.service ≡ None) }
-    ensures code { (result ≡ 0) ⊎ (result ≡ 1) }
-    ensures counts { result ≡ 0 → Knows (λ kept. count.new ≡ length (buffer (kept.warnings).latest warning_limit).items) domain.old.service }
-    ensures same { 0 < result → count.new ≡ count.old }
+    ensures no_domain { (result ≡ NO_DOMAIN) ↔ (domain.old.service ≡ None) }
+    ensures code { (result ≡ OK) ⊎ (result ≡ NO_DOMAIN) }
+    ensures counts { result ≡ OK → Knows (λ kept. count.new ≡ length (buffer (kept.warnings).latest warning_limit).items) domain.old.service }
+    ensures same { OK < result → count.new ≡ count.old }
     ensures unchanged { domain.new.service ≡ domain.old.service }
 {
     match domain.service() {
@@ -171,10 +172,10 @@ pub extern "C" fn iox2ps_domain_warning_count(domain: &mut DomainBox, count: &mu
 /// How often memory for a connection was refused.
 #[unsafe(no_mangle)]
 pub extern "C" fn iox2ps_domain_refused_connections(domain: &mut DomainBox, count: &mut u64) -> u32
-    ensures no_domain { (result ≡ 1) ↔ (domain.old.service ≡ None) }
-    ensures code { (result ≡ 0) ⊎ (result ≡ 1) }
-    ensures counts { result ≡ 0 → Knows (λ kept. count.new ≡ (kept.warnings).refused_connections) domain.old.service }
-    ensures same { 0 < result → count.new ≡ count.old }
+    ensures no_domain { (result ≡ NO_DOMAIN) ↔ (domain.old.service ≡ None) }
+    ensures code { (result ≡ OK) ⊎ (result ≡ NO_DOMAIN) }
+    ensures counts { result ≡ OK → Knows (λ kept. count.new ≡ (kept.warnings).refused_connections) domain.old.service }
+    ensures same { OK < result → count.new ≡ count.old }
     ensures unchanged { domain.new.service ≡ domain.old.service }
 {
     match domain.service() {
@@ -186,10 +187,10 @@ pub extern "C" fn iox2ps_domain_refused_connections(domain: &mut DomainBox, coun
 /// How many connections the domain keeps.
 #[unsafe(no_mangle)]
 pub extern "C" fn iox2ps_domain_connection_count(domain: &mut DomainBox, count: &mut usize) -> u32
-    ensures no_domain { (result ≡ 1) ↔ (domain.old.service ≡ None) }
-    ensures code { (result ≡ 0) ⊎ (result ≡ 1) }
-    ensures counts { result ≡ 0 → Knows (λ kept. count.new ≡ count_by is_some kept.connections) domain.old.service }
-    ensures same { 0 < result → count.new ≡ count.old }
+    ensures no_domain { (result ≡ NO_DOMAIN) ↔ (domain.old.service ≡ None) }
+    ensures code { (result ≡ OK) ⊎ (result ≡ NO_DOMAIN) }
+    ensures counts { result ≡ OK → Knows (λ kept. count.new ≡ count_by is_some kept.connections) domain.old.service }
+    ensures same { OK < result → count.new ≡ count.old }
     ensures unchanged { domain.new.service ≡ domain.old.service }
 {
     match domain.service() {
@@ -205,15 +206,15 @@ pub extern "C" fn iox2ps_domain_config_sized(
     config: &mut Config,
     struct_size: usize,
 ) -> u32
-    ensures no_domain { (result ≡ 1) ↔ (domain.old.service ≡ None) }
-    ensures code { (result ≡ 0) ⊎ (result ≡ 1) ⊎ (result ≡ invalid_struct_size) }
-    ensures unknown { result ≢ 1 → (result ≡ invalid_struct_size) ↔ (struct_size ≢ config_size) }
-    ensures known { result ≡ 0 → (config.new).struct_size ≡ config_size }
-    ensures reads { result ≡ 0 → Knows (λ kept. settings_of config.new ≡ settings_in kept) domain.old.service }
-    ensures sizes { result ≡ 0 → IfSome domain.old.service
+    ensures no_domain { (result ≡ NO_DOMAIN) ↔ (domain.old.service ≡ None) }
+    ensures code { (result ≡ OK) ⊎ (result ≡ NO_DOMAIN) ⊎ (result ≡ invalid_struct_size) }
+    ensures unknown { result ≢ NO_DOMAIN → (result ≡ invalid_struct_size) ↔ (struct_size ≢ config_size) }
+    ensures known { result ≡ OK → (config.new).struct_size ≡ config_size }
+    ensures reads { result ≡ OK → Knows (λ kept. settings_of config.new ≡ settings_in kept) domain.old.service }
+    ensures sizes { result ≡ OK → IfSome domain.old.service
         (λ it. ((config.new).payload_size ≡ it.payload_size)
         × ((config.new).payload_alignment ≡ it.payload_alignment)) }
-    ensures same { 0 < result → config.new ≡ config.old }
+    ensures same { OK < result → config.new ≡ config.old }
     ensures unchanged { domain.new.service ≡ domain.old.service }
 {
     match domain.service() {
@@ -229,12 +230,12 @@ pub extern "C" fn iox2ps_blocked_subscriber(
     blocked: &LoanNumbers,
     subscriber: &mut Wide,
 ) -> u32
-    ensures no_domain { (result ≡ 1) ↔ (domain.old.service ≡ None) }
-    ensures code { result < 3 }
-    ensures tells { result ≡ 0 → Knows (λ kept. IsBlockedKey kept (named_loan blocked.now)
+    ensures no_domain { (result ≡ NO_DOMAIN) ↔ (domain.old.service ≡ None) }
+    ensures code { result < NO_SAMPLE }
+    ensures tells { result ≡ OK → Knows (λ kept. IsBlockedKey kept (named_loan blocked.now)
         × TellsBlocker kept (wide (blocked.now).publisher) (wide subscriber.new)) domain.old.service }
-    ensures not_live { result ≡ 2 → KnowsNo (λ kept. IsBlockedKey kept (named_loan blocked.now)) domain.old.service }
-    ensures same { 0 < result → subscriber.new ≡ subscriber.old }
+    ensures not_live { result ≡ NOT_LIVE → KnowsNo (λ kept. IsBlockedKey kept (named_loan blocked.now)) domain.old.service }
+    ensures same { OK < result → subscriber.new ≡ subscriber.old }
     ensures unchanged { domain.new.service ≡ domain.old.service }
 {
     match domain.service() {
@@ -246,10 +247,10 @@ pub extern "C" fn iox2ps_blocked_subscriber(
 /// How many books of slots the domain keeps.
 #[unsafe(no_mangle)]
 pub extern "C" fn iox2ps_domain_book_count(domain: &mut DomainBox, count: &mut usize) -> u32
-    ensures no_domain { (result ≡ 1) ↔ (domain.old.service ≡ None) }
-    ensures code { (result ≡ 0) ⊎ (result ≡ 1) }
-    ensures counts { result ≡ 0 → Knows (λ kept. count.new ≡ count_by is_some kept.books) domain.old.service }
-    ensures same { 0 < result → count.new ≡ count.old }
+    ensures no_domain { (result ≡ NO_DOMAIN) ↔ (domain.old.service ≡ None) }
+    ensures code { (result ≡ OK) ⊎ (result ≡ NO_DOMAIN) }
+    ensures counts { result ≡ OK → Knows (λ kept. count.new ≡ count_by is_some kept.books) domain.old.service }
+    ensures same { OK < result → count.new ≡ count.old }
     ensures unchanged { domain.new.service ≡ domain.old.service }
 {
     match domain.service() {

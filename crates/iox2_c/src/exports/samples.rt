@@ -1,16 +1,16 @@
 //! The exports of samples.
 ghost use Rattle.std.specs.Prelude.{◌≡◌, ◌<◌, ◌↔◌, None, ℕ, List, drop, length, take, ◌≤◌, ◌⊎◌};
 ghost use Rattle.iox2_machine.specs.declared.header.Header.{Header};
-ghost use Rattle.iox2_pubsub.specs.Live.{A_sample, IsSampleKey, SampleHasHeader};
+ghost use Rattle.iox2_pubsub.specs.Live.{IsSampleKey, SampleHasHeader};
 ghost use Rattle.iox2_pubsub.specs.Slices.{SampleHasValues};
-ghost use Rattle.iox2_c.specs.Boxed.{Becomes, HoldsOn, Knows, KnowsNo};
-ghost use Rattle.iox2_c.specs.Numbers.{IsHeader, named_sample, wide};
-ghost use Rattle.iox2_c.specs.Steps.{SubscriberReleases};
+ghost use Rattle.iox2_c.specs.Boxed.{Knows, KnowsNo, Lifted};
+ghost use Rattle.iox2_c.specs.Numbers.{IsHeader, named_sample};
+ghost use Rattle.iox2_c.specs.Returns.{ReleaseReturns};
 
 use crate::calls::samples;
 use crate::domain_box::DomainBox;
 use crate::numbers::{HeaderNumbers, SampleNumbers};
-use crate::status::NO_DOMAIN;
+use crate::status::{NO_DOMAIN, NO_SAMPLE, NOT_LIVE, OK, TOO_SMALL};
 
 /// Where the bytes of a message lie, until it is given back.
 #[unsafe(no_mangle)]
@@ -20,13 +20,13 @@ pub extern "C" fn iox2ps_sample_payload(
     payload: &mut *const u8,
     len: &mut usize,
 ) -> u32
-    ensures no_domain { (result ≡ 1) ↔ (domain.old.service ≡ None) }
-    ensures code { result < 3 }
-    ensures not_live { result ≡ 2 → KnowsNo (λ kept. IsSampleKey kept (named_sample sample.now)) domain.old.service }
-    ensures live { result ≡ 0 → Knows (λ kept. IsSampleKey kept (named_sample sample.now)) domain.old.service }
-    ensures length { result ≡ 0 → Knows (λ kept. (values : List ℕ)
+    ensures no_domain { (result ≡ NO_DOMAIN) ↔ (domain.old.service ≡ None) }
+    ensures code { result < NO_SAMPLE }
+    ensures not_live { result ≡ NOT_LIVE → KnowsNo (λ kept. IsSampleKey kept (named_sample sample.now)) domain.old.service }
+    ensures live { result ≡ OK → Knows (λ kept. IsSampleKey kept (named_sample sample.now)) domain.old.service }
+    ensures length { result ≡ OK → Knows (λ kept. (values : List ℕ)
         → SampleHasValues kept (named_sample sample.now) values → len.new ≡ length values) domain.old.service }
-    ensures same { 0 < result → len.new ≡ len.old }
+    ensures same { OK < result → len.new ≡ len.old }
     ensures unchanged { domain.new.service ≡ domain.old.service }
 {
     match domain.service() {
@@ -43,19 +43,19 @@ pub extern "C" fn iox2ps_sample_copy(
     bytes: &mut [u8],
     len: &mut usize,
 ) -> u32
-    ensures no_domain { (result ≡ 1) ↔ (domain.old.service ≡ None) }
-    ensures code { (result < 3) ⊎ (result ≡ 9) }
-    ensures not_live { result ≡ 2 → KnowsNo (λ kept. IsSampleKey kept (named_sample sample.now)) domain.old.service }
-    ensures live { (result ≡ 0) ⊎ (result ≡ 9) → Knows (λ kept. IsSampleKey kept (named_sample sample.now)) domain.old.service }
-    ensures copied { result ≡ 0 → Knows (λ kept. SampleHasValues kept (named_sample sample.now) (take len.new bytes.new)) domain.old.service }
-    ensures fits { result ≡ 0 → len.new ≤ length bytes.old }
-    ensures rest { result ≡ 0 → drop len.new bytes.new ≡ drop len.new bytes.old }
-    ensures small { result ≡ 9 → length bytes.old < len.new }
-    ensures length { (result ≡ 0) ⊎ (result ≡ 9)
+    ensures no_domain { (result ≡ NO_DOMAIN) ↔ (domain.old.service ≡ None) }
+    ensures code { (result < NO_SAMPLE) ⊎ (result ≡ TOO_SMALL) }
+    ensures not_live { result ≡ NOT_LIVE → KnowsNo (λ kept. IsSampleKey kept (named_sample sample.now)) domain.old.service }
+    ensures live { (result ≡ OK) ⊎ (result ≡ TOO_SMALL) → Knows (λ kept. IsSampleKey kept (named_sample sample.now)) domain.old.service }
+    ensures copied { result ≡ OK → Knows (λ kept. SampleHasValues kept (named_sample sample.now) (take len.new bytes.new)) domain.old.service }
+    ensures fits { result ≡ OK → len.new ≤ length bytes.old }
+    ensures rest { result ≡ OK → drop len.new bytes.new ≡ drop len.new bytes.old }
+    ensures small { result ≡ TOO_SMALL → length bytes.old < len.new }
+    ensures length { (result ≡ OK) ⊎ (result ≡ TOO_SMALL)
         → Knows (λ kept. (values : List ℕ) → SampleHasValues kept (named_sample sample.now) values
         → len.new ≡ length values) domain.old.service }
-    ensures same { 0 < result → bytes.new ≡ bytes.old }
-    ensures same_length { (result ≡ 1) ⊎ (result ≡ 2) → len.new ≡ len.old }
+    ensures same { OK < result → bytes.new ≡ bytes.old }
+    ensures same_length { (result ≡ NO_DOMAIN) ⊎ (result ≡ NOT_LIVE) → len.new ≡ len.old }
     ensures unchanged { domain.new.service ≡ domain.old.service }
 {
     match domain.service() {
@@ -71,12 +71,13 @@ pub extern "C" fn iox2ps_sample_header(
     sample: &SampleNumbers,
     header: &mut HeaderNumbers,
 ) -> u32
-    ensures no_domain { (result ≡ 1) ↔ (domain.old.service ≡ None) }
-    ensures code { result < 3 }
-    ensures not_live { result ≡ 2 → KnowsNo (λ kept. IsSampleKey kept (named_sample sample.now)) domain.old.service }
-    ensures live { result ≡ 0 → Knows (λ kept. IsSampleKey kept (named_sample sample.now)) domain.old.service }
-    ensures reads { result ≡ 0 → Knows (λ kept. (it : Header) → SampleHasHeader kept (named_sample sample.now) it → IsHeader it header.new) domain.old.service }
-    ensures same { 0 < result → header.new ≡ header.old }
+    ensures no_domain { (result ≡ NO_DOMAIN) ↔ (domain.old.service ≡ None) }
+    ensures code { result < NO_SAMPLE }
+    ensures not_live { result ≡ NOT_LIVE → KnowsNo (λ kept. IsSampleKey kept (named_sample sample.now)) domain.old.service }
+    ensures live { result ≡ OK → Knows (λ kept. IsSampleKey kept (named_sample sample.now)) domain.old.service }
+    ensures reads { result ≡ OK → Knows (λ kept. (it : Header) → SampleHasHeader kept (named_sample sample.now) it
+        → IsHeader it header.new) domain.old.service }
+    ensures same { OK < result → header.new ≡ header.old }
     ensures unchanged { domain.new.service ≡ domain.old.service }
 {
     match domain.service() {
@@ -88,15 +89,9 @@ pub extern "C" fn iox2ps_sample_header(
 /// Gives a message back.
 #[unsafe(no_mangle)]
 pub extern "C" fn iox2ps_sample_release(domain: &mut DomainBox, sample: &SampleNumbers) -> u32
-    ensures no_domain { (result ≡ 1) ↔ (domain.old.service ≡ None) }
-    ensures code { result < 3 }
-    ensures not_live { result ≡ 2 → KnowsNo (λ kept. IsSampleKey kept (named_sample sample.now)) domain.old.service }
-    ensures live { result ≡ 0 → Knows (λ kept. IsSampleKey kept (named_sample sample.now)) domain.old.service }
-    ensures releases { result ≡ 0 → Becomes (λ old new. SubscriberReleases old new (wide (sample.now).subscriber)
-        (wide (sample.now).number)) domain.old.service domain.new.service }
-    ensures spent { KnowsNo (λ kept. IsSampleKey kept (named_sample sample.now)) domain.new.service }
-    ensures refused { 0 < result → domain.new.service ≡ domain.old.service }
-    ensures stays { HoldsOn (A_sample (wide (sample.now).subscriber) (wide (sample.now).number)) domain.old.service domain.new.service }
+    ensures { Lifted (Unit {0})
+        (λ old new. ReleaseReturns sample.now old new result)
+        domain.old.service domain.new.service result }
 {
     match domain.service() {
         Some(service) => samples::release(service, sample),

@@ -6,17 +6,18 @@ ghost use Rattle.iox2_machine.specs.declared.errors.SubscriberCreateError.{Subsc
 ghost use Rattle.iox2_machine.specs.declared.key.Key.{Key};
 ghost use Rattle.iox2_pubsub.specs.Live.{A_sample, A_subscriber, IsNewIn, IsSampleKey, IsSubscriberKey, No_item};
 ghost use Rattle.iox2_pubsub.specs.Slices.{SampleHasValues};
-ghost use Rattle.iox2_c.specs.Boxed.{Becomes, HoldsOn, Knows, KnowsNo, HoldsFromOldToNew};
+ghost use Rattle.iox2_c.specs.Boxed.{Becomes, HoldsFromOldToNew, HoldsOn, Knows, KnowsNo, Lifted};
 ghost use Rattle.iox2_c.specs.Codes.{first_setting_code, receive_code, subscriber_code};
 ghost use Rattle.iox2_c.specs.Settings.{invalid_subscriber_option, plain_subscriber_settings, subscriber_settings};
 ghost use Rattle.iox2_c.specs.Numbers.{named_sample, named_subscriber, wide};
 ghost use Rattle.iox2_c.specs.Steps.{ClosesSubscriber, CreatesSubscriber, SubscriberReceives, ReceivesCopy};
+ghost use Rattle.iox2_c.specs.Returns.{ReceiveReturns};
 
 use crate::calls::subscribers;
 use crate::domain_box::DomainBox;
 use crate::numbers::{SampleNumbers, SubscriberNumbers};
 use crate::options::SubscriberOptions;
-use crate::status::NO_DOMAIN;
+use crate::status::{NO_DOMAIN, NO_SAMPLE, NOT_LIVE, OK, TOO_SMALL};
 
 /// Makes a subscriber, as the settings say.
 #[unsafe(no_mangle)]
@@ -24,16 +25,16 @@ pub extern "C" fn iox2ps_subscriber_create(
     domain: &mut DomainBox,
     subscriber: &mut SubscriberNumbers,
 ) -> u32
-    ensures no_domain { (result ≡ 1) ↔ (domain.old.service ≡ None) }
-    ensures creates { result ≡ 0 → HoldsFromOldToNew
+    ensures no_domain { (result ≡ NO_DOMAIN) ↔ (domain.old.service ≡ None) }
+    ensures creates { result ≡ OK → HoldsFromOldToNew
         (λ old new. CreatesSubscriber old.domain new.domain (plain_subscriber_settings old) (Ok subscriber.new))
         domain.old.service domain.new.service }
-    ensures errors { 1 < result → (error : SubscriberCreateError) × (result ≡ subscriber_code error)
+    ensures errors { NO_DOMAIN < result → (error : SubscriberCreateError) × (result ≡ subscriber_code error)
         × HoldsFromOldToNew (λ old new. CreatesSubscriber old.domain new.domain (plain_subscriber_settings old)
         (Err error)) domain.old.service domain.new.service }
-    ensures live { result ≡ 0 → Knows (λ kept. IsSubscriberKey kept (named_subscriber subscriber.new)) domain.new.service }
-    ensures new { result ≡ 0 → Knows (λ kept. IsNewIn kept (A_subscriber (wide (subscriber.new).id))) domain.old.service }
-    ensures same { 0 < result → subscriber.new ≡ subscriber.old }
+    ensures live { result ≡ OK → Knows (λ kept. IsSubscriberKey kept (named_subscriber subscriber.new)) domain.new.service }
+    ensures new { result ≡ OK → Knows (λ kept. IsNewIn kept (A_subscriber (wide (subscriber.new).id))) domain.old.service }
+    ensures same { OK < result → subscriber.new ≡ subscriber.old }
     ensures stays { HoldsOn No_item domain.old.service domain.new.service }
 {
     match domain.service() {
@@ -49,20 +50,20 @@ pub extern "C" fn iox2ps_subscriber_create_with(
     options: &SubscriberOptions,
     subscriber: &mut SubscriberNumbers,
 ) -> u32
-    ensures no_domain { (result ≡ 1) ↔ (domain.old.service ≡ None) }
-    ensures creates { result ≡ 0 → HoldsFromOldToNew
+    ensures no_domain { (result ≡ NO_DOMAIN) ↔ (domain.old.service ≡ None) }
+    ensures creates { result ≡ OK → HoldsFromOldToNew
         (λ old new. CreatesSubscriber old.domain new.domain (subscriber_settings options.now) (Ok subscriber.new))
         domain.old.service domain.new.service }
-    ensures errors { 1 < result → result < first_setting_code → (error : SubscriberCreateError)
+    ensures errors { NO_DOMAIN < result → result < first_setting_code → (error : SubscriberCreateError)
         × (result ≡ subscriber_code error)
         × HoldsFromOldToNew (λ old new. CreatesSubscriber old.domain new.domain (subscriber_settings options.now)
         (Err error)) domain.old.service domain.new.service }
-    ensures valid { result ≢ 1 → result < first_setting_code → invalid_subscriber_option options.now ≡ 0 }
+    ensures valid { result ≢ NO_DOMAIN → result < first_setting_code → invalid_subscriber_option options.now ≡ 0 }
     ensures invalid { first_setting_code ≤ result → result ≡ invalid_subscriber_option options.now }
-    ensures refused { (result ≡ 1) ⊎ (first_setting_code ≤ result) → domain.new.service ≡ domain.old.service }
-    ensures live { result ≡ 0 → Knows (λ kept. IsSubscriberKey kept (named_subscriber subscriber.new)) domain.new.service }
-    ensures new { result ≡ 0 → Knows (λ kept. IsNewIn kept (A_subscriber (wide (subscriber.new).id))) domain.old.service }
-    ensures same { 0 < result → subscriber.new ≡ subscriber.old }
+    ensures refused { (result ≡ NO_DOMAIN) ⊎ (first_setting_code ≤ result) → domain.new.service ≡ domain.old.service }
+    ensures live { result ≡ OK → Knows (λ kept. IsSubscriberKey kept (named_subscriber subscriber.new)) domain.new.service }
+    ensures new { result ≡ OK → Knows (λ kept. IsNewIn kept (A_subscriber (wide (subscriber.new).id))) domain.old.service }
+    ensures same { OK < result → subscriber.new ≡ subscriber.old }
     ensures stays { HoldsOn No_item domain.old.service domain.new.service }
 {
     match domain.service() {
@@ -77,11 +78,11 @@ pub extern "C" fn iox2ps_subscriber_close(
     domain: &mut DomainBox,
     subscriber: &SubscriberNumbers,
 ) -> u32
-    ensures no_domain { (result ≡ 1) ↔ (domain.old.service ≡ None) }
-    ensures live { result ≡ 0 → Knows (λ kept. IsSubscriberKey kept (named_subscriber subscriber.now)) domain.old.service }
-    ensures closed { result ≡ 0 → Becomes (λ old new. ClosesSubscriber old new (wide (subscriber.now).id)) domain.old.service domain.new.service }
+    ensures no_domain { (result ≡ NO_DOMAIN) ↔ (domain.old.service ≡ None) }
+    ensures live { result ≡ OK → Knows (λ kept. IsSubscriberKey kept (named_subscriber subscriber.now)) domain.old.service }
+    ensures closed { result ≡ OK → Becomes (λ old new. ClosesSubscriber old new (wide (subscriber.now).id)) domain.old.service domain.new.service }
     ensures spent { KnowsNo (λ kept. IsSubscriberKey kept (named_subscriber subscriber.now)) domain.new.service }
-    ensures refused { 0 < result → domain.new.service ≡ domain.old.service }
+    ensures refused { OK < result → domain.new.service ≡ domain.old.service }
     ensures stays { HoldsOn (A_subscriber (wide (subscriber.now).id)) domain.old.service domain.new.service }
 {
     match domain.service() {
@@ -99,22 +100,9 @@ pub extern "C" fn iox2ps_subscriber_receive(
     payload: &mut *const u8,
     len: &mut usize,
 ) -> u32
-    ensures no_domain { (result ≡ 1) ↔ (domain.old.service ≡ None) }
-    ensures received { result ≡ 0 → Becomes (λ old new. SubscriberReceives old new (wide (subscriber.now).id)
-        (Got_sample (wide (sample.new).origin) (wide (sample.new).number))) domain.old.service domain.new.service }
-    ensures nothing { result ≡ 3 → Becomes (λ old new. SubscriberReceives old new (wide (subscriber.now).id) No_sample) domain.old.service domain.new.service }
-    ensures errors { 3 < result → (error : ReceiveError) × (result ≡ receive_code error)
-        × Becomes (λ old new. SubscriberReceives old new (wide (subscriber.now).id) (Receive_error error))
-        domain.old.service domain.new.service }
-    ensures not_live { result ≡ 2 → KnowsNo (λ kept. IsSubscriberKey kept (named_subscriber subscriber.now)) domain.old.service }
-    ensures refused { 0 < result → result < 3 → domain.new.service ≡ domain.old.service }
-    ensures live { result ≡ 0 → Knows (λ kept. IsSampleKey kept (named_sample sample.new)) domain.new.service }
-    ensures new { result ≡ 0 → Knows (λ kept. IsNewIn kept (A_sample (wide (sample.new).subscriber) (wide (sample.new).number))) domain.old.service }
-    ensures length { result ≡ 0 → Knows (λ kept. (values : List ℕ)
-        → SampleHasValues kept (named_sample sample.new) values → len.new ≡ length values) domain.new.service }
-    ensures same { 0 < result → sample.new ≡ sample.old }
-    ensures same_length { 0 < result → len.new ≡ len.old }
-    ensures stays { HoldsOn No_item domain.old.service domain.new.service }
+    ensures { Lifted ((sample.new ≡ sample.old) × (len.new ≡ len.old))
+        (λ old new. ReceiveReturns subscriber.now old new sample.old sample.new len.old len.new result)
+        domain.old.service domain.new.service result }
 {
     match domain.service() {
         Some(service) => subscribers::receive(service, subscriber, sample, payload, len),
@@ -131,27 +119,28 @@ pub extern "C" fn iox2ps_subscriber_receive_copy(
     len: &mut usize,
     sample: &mut SampleNumbers,
 ) -> u32
-    ensures no_domain { (result ≡ 1) ↔ (domain.old.service ≡ None) }
-    ensures copied { result ≡ 0 → (key : Key) × (key.port ≡ wide (subscriber.now).id) × (origin : ℕ)
+    ensures no_domain { (result ≡ NO_DOMAIN) ↔ (domain.old.service ≡ None) }
+    ensures copied { result ≡ OK → (key : Key) × (key.port ≡ wide (subscriber.now).id) × (origin : ℕ)
         × Becomes (λ old new. ReceivesCopy old new key origin (take len.new bytes.new)) domain.old.service
         domain.new.service }
-    ensures fits { result ≡ 0 → len.new ≤ length bytes.old }
-    ensures kept { result ≡ 9 → Becomes (λ old new. SubscriberReceives old new (wide (subscriber.now).id)
+    ensures fits { result ≡ OK → len.new ≤ length bytes.old }
+    ensures kept { result ≡ TOO_SMALL → Becomes (λ old new. SubscriberReceives old new (wide (subscriber.now).id)
         (Got_sample (wide (sample.new).origin) (wide (sample.new).number))) domain.old.service domain.new.service }
-    ensures live { result ≡ 9 → Knows (λ kept. IsSampleKey kept (named_sample sample.new)) domain.new.service }
-    ensures new { result ≡ 9 → Knows (λ kept. IsNewIn kept (A_sample (wide (sample.new).subscriber) (wide (sample.new).number))) domain.old.service }
-    ensures small { result ≡ 9 → length bytes.old < len.new }
-    ensures length { result ≡ 9 → Knows (λ kept. (values : List ℕ)
+    ensures live { result ≡ TOO_SMALL → Knows (λ kept. IsSampleKey kept (named_sample sample.new)) domain.new.service }
+    ensures new { result ≡ TOO_SMALL → Knows (λ kept. IsNewIn kept (A_sample (wide (sample.new).subscriber) (wide (sample.new).number))) domain.old.service }
+    ensures small { result ≡ TOO_SMALL → length bytes.old < len.new }
+    ensures length { result ≡ TOO_SMALL → Knows (λ kept. (values : List ℕ)
         → SampleHasValues kept (named_sample sample.new) values → len.new ≡ length values) domain.new.service }
-    ensures nothing { result ≡ 3 → Becomes (λ old new. SubscriberReceives old new (wide (subscriber.now).id) No_sample) domain.old.service domain.new.service }
-    ensures errors { 3 < result → result ≢ 9 → (error : ReceiveError) × (result ≡ receive_code error)
+    ensures nothing { result ≡ NO_SAMPLE → Becomes (λ old new. SubscriberReceives old new (wide (subscriber.now).id)
+        No_sample) domain.old.service domain.new.service }
+    ensures errors { NO_SAMPLE < result → result ≢ TOO_SMALL → (error : ReceiveError) × (result ≡ receive_code error)
         × Becomes (λ old new. SubscriberReceives old new (wide (subscriber.now).id) (Receive_error error))
         domain.old.service domain.new.service }
-    ensures not_live { result ≡ 2 → KnowsNo (λ kept. IsSubscriberKey kept (named_subscriber subscriber.now)) domain.old.service }
-    ensures refused { 0 < result → result < 3 → domain.new.service ≡ domain.old.service }
-    ensures same { 0 < result → bytes.new ≡ bytes.old }
-    ensures same_numbers { result ≢ 9 → sample.new ≡ sample.old }
-    ensures same_length { 0 < result → result ≢ 9 → len.new ≡ len.old }
+    ensures not_live { result ≡ NOT_LIVE → KnowsNo (λ kept. IsSubscriberKey kept (named_subscriber subscriber.now)) domain.old.service }
+    ensures refused { OK < result → result < NO_SAMPLE → domain.new.service ≡ domain.old.service }
+    ensures same { OK < result → bytes.new ≡ bytes.old }
+    ensures same_numbers { result ≢ TOO_SMALL → sample.new ≡ sample.old }
+    ensures same_length { OK < result → result ≢ TOO_SMALL → len.new ≡ len.old }
     ensures stays { HoldsOn No_item domain.old.service domain.new.service }
 {
     match domain.service() {

@@ -12,6 +12,7 @@ use std::time::Duration;
 
 impl Recording {
     /// A loan of that many bytes was asked for. It was granted, or not, as the code and the error say.
+    #[inline(always)]
     pub fn loan(
         &mut self,
         publisher: &PublisherNumbers,

@@ -10,7 +10,7 @@ use Rattle.iox2_pubsub.specs.Handles.{as_publisher, publisher_id}
 use Rattle.iox2_pubsub.specs.declared.slice.publisher.Publisher.{Publisher}
 use Rattle.iox2_pubsub.specs.declared.port_factory.preallocation.PreallocatedSamplesOverride.{PreallocatedSamplesOverride}
 use Rattle.iox2_c.specs.Steps.{BytesState, publishers_answer}
-use Rattle.iox2_c.specs.declared.handlers.NoHandler.{NoHandler}
+use Rattle.iox2_pubsub.specs.declared.no_handler.NoHandler.{NoHandler}
 use Rattle.iox2_pubsub.proofs.AskedSlots.{asked-result, asks-alike}
 use Rattle.iox2_c.proofs.CreationSteps.{by-id}
 use Rattle.iox2_c.proofs.calls.publishers.create_asked.Goals as goal

@@ -2,7 +2,7 @@ use Rattle.std.proofs.Common.{ap, ◌∙◌}
 use Rattle.iox2_pubsub.specs.Factories.{SubscriberFactory}
 use Rattle.iox2_c.specs.Serving.{Serving}
 use Rattle.iox2_c.specs.Settings.{plain_subscriber_settings}
-use Rattle.iox2_c.specs.declared.handlers.NoHandler.{NoHandler}
+use Rattle.iox2_pubsub.specs.declared.no_handler.NoHandler.{NoHandler}
 use Rattle.iox2_c.proofs.CreationSteps.{ToldOf, subscriber-creates, subscriber-refused, told-moved}
 use Rattle.iox2_c.proofs.calls.subscribers.create.Goals as goal
 

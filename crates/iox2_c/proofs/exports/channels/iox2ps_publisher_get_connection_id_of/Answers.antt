@@ -1,11 +1,11 @@
-use Rattle.std.proofs.Common.{arith}
-use Rattle.iox2_c.proofs.ChannelSteps.{knows}
+use Rattle.std.proofs.Common.{rules, refl}
+use Rattle.iox2_c.proofs.BecomesSteps.{lifted, unlifted}
 use Rattle.iox2_c.proofs.exports.channels.iox2ps_publisher_get_connection_id_of.Goals as goal
 
-pub returns-in-Some-clause-tells : goal.returns-in-Some-clause-tells
-returns-in-Some-clause-tells c = λ ok. knows _ _ c.in-Some.service.now c.in-Some.ensures.value
-    (c.connection_of.ensures.live (λ two. absurd (omega (arith, two, ok))), c.connection_of.ensures.tells ok)
+pub returns-in-Some : goal.returns-in-Some
+returns-in-Some c =
+    lifted _ _ _ _ c.in-Some.service.now c.connection_of.new.service _ c.in-Some.ensures.value refl
+    c.connection_of.ensures
 
-pub returns-in-Some-clause-none : goal.returns-in-Some-clause-none
-returns-in-Some-clause-none c = λ none. knows _ _ c.in-Some.service.now c.in-Some.ensures.value
-    (c.connection_of.ensures.live (λ two. absurd (omega (arith, two, none))), c.connection_of.ensures.none none)
+pub returns-in-None : goal.returns-in-None
+returns-in-None c = unlifted _ _ _ _ _ (search rules) refl (search rules) (search rules)

@@ -1,6 +1,10 @@
-use Rattle.iox2_c.proofs.ChannelSteps.{knows, publisher-there}
+use Rattle.std.proofs.Common.{rules, refl}
+use Rattle.iox2_c.proofs.BecomesSteps.{lifted, unlifted}
 use Rattle.iox2_c.proofs.exports.channels.iox2ps_publisher_has_channel_state.Goals as goal
 
-pub returns-in-Some-clause-tells : goal.returns-in-Some-clause-tells
-returns-in-Some-clause-tells c = λ ok. knows _ _ c.in-Some.service.now c.in-Some.ensures.value
-    (publisher-there _ _ _ _ c.has_state.ensures.code ok, c.has_state.ensures.tells ok)
+pub returns-in-Some : goal.returns-in-Some
+returns-in-Some c =
+    lifted _ _ _ _ c.in-Some.service.now c.has_state.new.service _ c.in-Some.ensures.value refl c.has_state.ensures
+
+pub returns-in-None : goal.returns-in-None
+returns-in-None c = unlifted _ _ _ _ _ (search rules) refl (search rules) (search rules)

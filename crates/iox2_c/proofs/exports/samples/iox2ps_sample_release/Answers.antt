@@ -1,7 +1,10 @@
-use Rattle.std.proofs.Common.{refl}
-use Rattle.iox2_c.proofs.BecomesSteps.{becomes}
+use Rattle.std.proofs.Common.{rules, refl}
+use Rattle.iox2_c.proofs.BecomesSteps.{lifted, unlifted}
 use Rattle.iox2_c.proofs.exports.samples.iox2ps_sample_release.Goals as goal
 
-pub returns-in-Some-clause-releases : goal.returns-in-Some-clause-releases
-returns-in-Some-clause-releases c = λ ok. becomes _ _ _ c.in-Some.service.now c.release.new.service
-    c.in-Some.ensures.value refl (c.release.ensures.releases ok)
+pub returns-in-Some : goal.returns-in-Some
+returns-in-Some c =
+    lifted _ _ _ _ c.in-Some.service.now c.release.new.service _ c.in-Some.ensures.value refl c.release.ensures
+
+pub returns-in-None : goal.returns-in-None
+returns-in-None c = unlifted _ _ _ _ _ (search rules) refl (search rules) (search rules)

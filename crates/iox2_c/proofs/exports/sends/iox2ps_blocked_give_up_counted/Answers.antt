@@ -1,12 +1,10 @@
-use Rattle.std.proofs.Common.{refl, inl, inr, arith}
-use Rattle.iox2_c.proofs.BecomesSteps.{becomes}
+use Rattle.std.proofs.Common.{rules, refl}
+use Rattle.iox2_c.proofs.BecomesSteps.{lifted, unlifted}
 use Rattle.iox2_c.proofs.exports.sends.iox2ps_blocked_give_up_counted.Goals as goal
 
-pub returns-in-Some-clause-ends : goal.returns-in-Some-clause-ends
-returns-in-Some-clause-ends c = λ ended. let done = c.give_up.ensures.ends
-    (λ two. absurd (elim ended [ inl none ↦ omega (arith, two, none) | inr high ↦ omega (arith, two, high) ])) in (
-      done.0,
-      done.1,
-      done.2,
-      becomes _ _ _ c.in-Some.service.now c.give_up.new.service c.in-Some.ensures.value refl done.3,
-    )
+pub returns-in-Some : goal.returns-in-Some
+returns-in-Some c =
+    lifted _ _ _ _ c.in-Some.service.now c.give_up.new.service _ c.in-Some.ensures.value refl c.give_up.ensures
+
+pub returns-in-None : goal.returns-in-None
+returns-in-None c = unlifted _ _ _ _ _ (search rules) refl (search rules) (search rules)

@@ -1,0 +1,10 @@
+use Rattle.std.proofs.Common.{rules, refl}
+use Rattle.iox2_c.proofs.BecomesSteps.{lifted, unlifted}
+use Rattle.iox2_c.proofs.exports.sends.iox2ps_loan_send_counted.Goals as goal
+
+pub returns-in-Some : goal.returns-in-Some
+returns-in-Some c =
+    lifted _ _ _ _ c.in-Some.service.now c.send.new.service _ c.in-Some.ensures.value refl c.send.ensures
+
+pub returns-in-None : goal.returns-in-None
+returns-in-None c = unlifted _ _ _ _ _ (search rules) refl (search rules) (search rules)
