@@ -16,11 +16,9 @@ use recording::record_three;
 use spreading::spread_two;
 
 fn main(rt: HostRuntime) -> Result<(), Failure> {
-    let pushed = push_three(rt.alloc())?;
-    if let Some(number) = pushed.taken_out {
+    if let Some(number) = push_three(rt.alloc())? {
         println!(rt; "made room: {number} is out")?;
     }
-    print_all(&rt, "waits", pushed.left.as_slice())?;
     let spread = spread_two(rt.alloc())?;
     println!(rt; "blocked: {}", spread.was_blocked)?;
     print_all(&rt, "first", spread.first.as_slice())?;

@@ -8,24 +8,17 @@ ghost use Rattle.blocking_patterns.specs.Ports.{IsMadeFor};
 use crate::failure::Failure;
 use crate::ports::{connected_publisher, settings};
 use iox2_pubsub::{Publisher, Subscriber};
-use message_patterns::{Numbers, is_idle, push_or_wait, push_over, read_all};
+use message_patterns::{Numbers, is_idle, push_or_wait, push_over};
 use std::alloc::Global;
 
-/// What came of it: the number that made room, and those that wait at the end.
-#[derive(Drop)]
-pub struct Pushed {
-    pub taken_out: Option<u32>,
-    pub left: Vec<u32>,
-}
-
-/// Pushes three numbers into a buffer for two.
-pub fn push_three(alloc: Global) -> Result<Pushed, Failure> {
+/// Pushes three numbers into a buffer for two. Returns the one that made room.
+pub fn push_three(alloc: Global) -> Result<Option<u32>, Failure> {
     let mut domain = Numbers::with_handlers(alloc, settings(1, 1))?;
-    with_ports(alloc, &mut domain)
+    with_ports(&mut domain)
 }
 
 // Makes the ports, and closes them.
-fn with_ports(alloc: Global, domain: &mut Numbers) -> Result<Pushed, Failure>
+fn with_ports(domain: &mut Numbers) -> Result<Option<u32>, Failure>
     requires { IsMadeFor domain.old 1 }
 {
     let subscriber = domain.subscriber_builder().create(domain)?;
@@ -36,19 +29,18 @@ fn with_ports(alloc: Global, domain: &mut Numbers) -> Result<Pushed, Failure>
             return Err(error);
         }
     };
-    let pushed = push_into(alloc, domain, &publisher, &subscriber);
+    let pushed = push_into(domain, &publisher, &subscriber);
     publisher.disown();
     subscriber.disown();
     pushed
 }
 
-// Pushes the three, and reads what waits then.
+// Pushes the three.
 fn push_into(
-    alloc: Global,
     domain: &mut Numbers,
     publisher: &Publisher,
     subscriber: &Subscriber,
-) -> Result<Pushed, Failure>
+) -> Result<Option<u32>, Failure>
     requires single_valued { IsSingleValued domain.old }
     requires one { (domain.old.config).max_subscribers ≡ 1 }
     requires publisher { IsReadyPublisher domain.old publisher.now }
@@ -68,8 +60,5 @@ fn push_into(
         waiting.disown();
         return Err(Failure::Busy);
     }
-    let taken_out = push_over(domain, publisher, subscriber, 3)?;
-    let mut left = Vec::new(alloc);
-    read_all(domain, subscriber, &mut left)?;
-    Ok(Pushed { taken_out, left })
+    Ok(push_over(domain, publisher, subscriber, 3)?)
 }

@@ -1,5 +1,5 @@
 //! A recorder gets each number, and a display those that it has room for.
-ghost use Rattle.std.specs.Prelude.{◌≢◌, OnOk};
+ghost use Rattle.std.specs.Prelude.{◌≢◌};
 ghost use Rattle.iox2_pubsub.specs.Handles.{publisher_id, subscriber_id};
 ghost use Rattle.iox2_pubsub.specs.Live.{A_blocked_send, IsConnected, IsLiveSubscriber, IsReadyPublisher};
 ghost use Rattle.iox2_pubsub.specs.Live.{IsSingleValued, StaysBut, UpToDateStay};
@@ -80,7 +80,13 @@ fn record_to(
 {
     let mut recorded = Vec::new(alloc);
     record_number(domain, publisher, recorder, 1, &mut recorded)?;
+    if publisher.is_blocked(domain) {
+        return Err(Failure::Busy);
+    }
     record_number(domain, publisher, recorder, 2, &mut recorded)?;
+    if publisher.is_blocked(domain) {
+        return Err(Failure::Busy);
+    }
     record_number(domain, publisher, recorder, 3, &mut recorded)?;
     read_all(domain, recorder, &mut recorded)?;
     let mut displayed = Vec::new(alloc);
@@ -103,7 +109,6 @@ fn record_number(
     requires publisher { IsReadyPublisher domain.old publisher.now }
     requires recorder { IsLiveSubscriber domain.old recorder.now }
     requires connected { IsConnected domain.old (publisher_id publisher.now) recorder.now }
-    ensures ready { OnOk result (IsReadyPublisher domain.new publisher.now) }
     ensures up_to_date { UpToDateStay domain.old domain.new }
     ensures stays { StaysBut (A_blocked_send (publisher_id publisher.now)) domain.old domain.new }
 {
