@@ -158,7 +158,7 @@ uint64_t iox2ps_processes_build(void);
 #define IOX2PS_BRINGS_EVENT UINT32_C(32)
 
 /** How many calls, of all processes, have brought any of these, a sum of iox2ps_brings_e and the two above. It is asked before a call that may find
- * nothing, so that a wait afterwards misses nothing that came in between:
+ * nothing, or no room, so that a wait afterwards misses nothing that came in between:
  *
  *     uint64_t seen;
  *     do code = iox2ps_domain_brought(&domain, IOX2PS_BRINGS_MESSAGE, &seen);

@@ -152,6 +152,7 @@ static shared_status_t look(shared_files_t *it, int fd, size_t size, rooms_t *ro
   bool is_ours = header != NULL && memcmp(header->magic, MAGIC, sizeof MAGIC) == 0;
   bool is_begun = size == 0 || (header != NULL && is_blank(header));
   it->places = (places_t){header == NULL ? NULL : &header->who, PLACES_MAX, NO_PLACE, it->places.lock_fd};
+  /* Acquire: what the creator wrote before it said that all is ready. */
   bool is_had = places_one_lives(&it->places), is_ready = is_ours && atomic_load_explicit(&header->is_ready, memory_order_acquire) == IS_READY;
   if (is_ours) *rooms = (rooms_t){header->places, header->length, header->room};
   bool is_whole = is_ready && are_good(rooms->places, rooms->length) && rooms->room <= size && file_size(*rooms) == size;

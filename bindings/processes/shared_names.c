@@ -16,6 +16,7 @@ static uint32_t count_living(const shared_header_t *header, int fd) {
   places_t places = {(places_shared_t *)&header->who, header->places < PLACES_MAX ? header->places : PLACES_MAX, NO_PLACE, fd};
   uint32_t living = 0, dead = 0;
   uint64_t number;
+  /* Relaxed: only counted. */
   for (uint32_t place = 0; place < places.count; place++) living += atomic_load_explicit(&places.shared->numbers[place], memory_order_relaxed) != 0;
   for (uint32_t place = 0; (place = places_next_dead(&places, ALL_PLACES, place, &number)) != NO_PLACE; place++) dead++;
   return living > dead ? living - dead : 0;

@@ -1,6 +1,7 @@
 # SPDX-License-Identifier: Apache-2.0 OR MIT
 """What a message between processes takes: this library, iceoryx, a Unix socket, plain Cyclone DDS and a bare flag, one after the other in each
 round, so that all have the same machine."""
+import itertools
 import os
 import statistics
 import subprocess
@@ -80,11 +81,16 @@ def of_iceoryx(work, main):
     return work / "by_iceoryx"
 
 
+def of_c(work, library, main):
+    """The program over this library."""
+    said("gcc", main, compiled(work, "gcc", "by_processes.c", *library.includes()), library.packed, "-o", work / "by_processes")
+    return work / "by_processes"
+
+
 def programs(work, library, times="figures.c"):
     """What carries messages, and its program with what times them."""
     main = compiled(work, "gcc", times)
-    ours = work / "by_processes"
-    said("gcc", main, compiled(work, "gcc", "by_processes.c", *library.includes()), library.packed, "-o", ours)
+    ours = of_c(work, library, main)
     said("g++", main, compiled(work, "g++", "by_cpp.cpp", *library.includes()), library.packed, "-pthread", "-o", work / "by_cpp")
     found = {OURS: ours, CPP: work / "by_cpp"}
     if is_here("cargo"):
@@ -103,6 +109,15 @@ def programs(work, library, times="figures.c"):
     else:
         print("skipped Cyclone DDS: idlc isn't here")
     return found
+
+
+def pass_by_small_buffers(work, library):
+    """Every message comes also where the sender is blocked by almost each: one that looks too late for what made room waits for ever."""
+    program = of_c(work, library, compiled(work, "gcc", "figures.c"))
+    for buffer, how in itertools.product((1, 2, 8), (SPIN, SLEEP)):
+        words = (program, f"test_figures.{os.getpid()}", 64, 1, how, ONE_WAY, 2000, buffer)
+        said("timeout", "-s", "KILL", MOST_SECONDS, *words)
+    return f"2000 messages, where 1 to {buffer} may wait"
 
 
 # ---- what is measured

@@ -58,6 +58,12 @@ static uint64_t seen(int which, uint32_t brings) {
   return count;
 }
 
+/* More than so many calls have made room. */
+static void wait_for_room(uint64_t before) {
+  if (is.sleeps) must(iox2ps_domain_wait(&domains[sends_on], IOX2PS_BRINGS_ROOM, before, UINT64_MAX));
+  else while (seen(sends_on, IOX2PS_BRINGS_ROOM) == before) {}
+}
+
 void carrier_send(uint64_t number) {
   iox2ps_domain_t *domain = &domains[sends_on];
   iox2ps_loan_t loan;
@@ -66,17 +72,12 @@ void carrier_send(uint64_t number) {
   size_t receivers;
   must(iox2ps_publisher_loan_uninit(domain, &publisher, is.bytes, &loan, &payload));
   *(volatile uint64_t *)payload = number;
-  uint64_t before = is.sleeps && is.is_one_way ? seen(sends_on, IOX2PS_BRINGS_ROOM) : 0;
+  /* Before the call that may find no room: a receiver that has taken all by the time of a later look makes no more. */
+  uint64_t before = is.is_one_way ? seen(sends_on, IOX2PS_BRINGS_ROOM) : 0;
   iox2ps_status_t code = iox2ps_loan_send(domain, &loan, &receivers, &blocked);
   while (code == IOX2PS_BLOCKED) {
-    if (is.sleeps) {
-      must(iox2ps_domain_wait(domain, IOX2PS_BRINGS_ROOM, before, UINT64_MAX));
-      before = seen(sends_on, IOX2PS_BRINGS_ROOM);
-    } else {
-      /* A retry is a call that all make: it waits until something has made room. */
-      uint64_t then = seen(sends_on, IOX2PS_BRINGS_ROOM);
-      while (seen(sends_on, IOX2PS_BRINGS_ROOM) == then) {}
-    }
+    wait_for_room(before); /* since a retry is a call that all make */
+    before = seen(sends_on, IOX2PS_BRINGS_ROOM);
     code = iox2ps_blocked_retry(domain, &blocked, 0, &receivers);
   }
   must(code);

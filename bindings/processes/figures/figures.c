@@ -2,6 +2,7 @@
 #define _GNU_SOURCE
 /* Times messages between processes by one carrier: NAME BYTES SUBSCRIBERS spin|sleep round_trip|one_way COUNT BUFFER
  * Prints ns of a round trip, the median, 99 % and 99.9 %; or messages a second. */
+#include "../tests/children.h"
 #include "figures.h"
 #include <stdio.h>
 #include <stdlib.h>
@@ -77,7 +78,7 @@ int main(int count, char **words) {
   if (common == MAP_FAILED) return 1;
   carrier_begin(&traffic);
   for (uint32_t process = 1; process <= traffic.subscribers; process++)
-    if (fork() == 0) be_subscriber(&traffic, process, traffic.is_one_way ? messages : messages + WARM_UP);
+    if (fork_child() == 0) be_subscriber(&traffic, process, traffic.is_one_way ? messages : messages + WARM_UP);
   carrier_open(0);
   wait_for(&common->ready, traffic.subscribers);
   if (traffic.is_one_way) one_way(&traffic, messages);

@@ -5,6 +5,7 @@
  * In each round all series come in turn, and each process keeps to its processor. Whatever a process does, the machine's own ticks take it
  * from it at the same places of each millisecond: what overlaps one is told apart in all series alike, and what is left is quiet. Prints ns:
  * of all round trips the median, 99 % and 99.9 %; of the quiet ones; and of the flag's quiet ones. */
+#include "../tests/children.h"
 #include "figures.h"
 #include <sched.h>
 #include <stdio.h>
@@ -206,11 +207,11 @@ int main(int count, char **words) {
   common = mmap(NULL, sizeof *common, PROT_READ | PROT_WRITE, MAP_SHARED | MAP_ANONYMOUS, -1, 0);
   if (common == MAP_FAILED) return 1;
   carrier_begin(&traffic);
-  if (fork() == 0) {
+  if (fork_child() == 0) {
     be(1, atoi(words[6]), messages);
     exit(0);
   }
-  if (count > 7 && fork() == 0) {
+  if (count > 7 && fork_child() == 0) {
     carrier_follow(has_ended);
     exit(0);
   }

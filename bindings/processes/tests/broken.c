@@ -171,7 +171,7 @@ static void replies_otherwise(void) {
 
 static void diverged(void) {
   had_t it = has_all();
-  CHECK(WIFSIGNALED(status_of(child_that(replies_otherwise))));
+  CHECK(was_killed(status_of(child_that(replies_otherwise))));
   all_say(&it, IOX2PS_PROCESSES_DIVERGED);
 }
 

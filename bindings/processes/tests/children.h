@@ -3,6 +3,7 @@
 #define IOX2PS_CHILDREN_H
 
 #include <signal.h>
+#include <stdbool.h>
 #include <stdint.h>
 #include <stdlib.h>
 #include <sys/prctl.h>
@@ -34,6 +35,9 @@ static inline pid_t run_child(void (*runs)(uint64_t which), uint64_t which) {
   runs(which);
   _exit(0);
 }
+
+/* Whether it was ended so, and not by a fault of its own. */
+static inline bool was_killed(int status) { return WIFSIGNALED(status) && WTERMSIG(status) == SIGKILL; }
 
 /* How it has ended, when it has. */
 static inline int status_of(pid_t child) {

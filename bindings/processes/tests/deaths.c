@@ -44,7 +44,7 @@ static void a_place_for_the_next(const char *name) {
       for (int slot = 0; slot < SLOTS; slot++) CHECK(call(&publisher, LEND, 0) != NOTHING);
       raise(SIGKILL);
     }
-    CHECK(WIFSIGNALED(status_of(child)));
+    CHECK(was_killed(status_of(child)));
   }
   pid_t child = child_with_mailbox(name, &publisher);
   if (child == 0) {
@@ -78,7 +78,7 @@ static void a_slot_for_the_next(const char *name) {
     for (int slot = 0; slot < SLOTS; slot++) CHECK(call(&publisher, LEND, 0) != NOTHING);
     raise(SIGKILL);
   }
-  CHECK(WIFSIGNALED(status_of(child)));
+  CHECK(was_killed(status_of(child)));
   size_t found;
   CHECK(call(&it, LEND, 0) == NOTHING);
   CHECK(member_reap(&it, &found) == REPLICA_OK && found == 1 && places_begun(told) == 2);
@@ -95,7 +95,7 @@ static void given_back_as_one_enters(const char *name) {
     CHECK(call(&publisher, LEND, 0) == 0);
     raise(SIGKILL);
   }
-  CHECK(WIFSIGNALED(status_of(child)));
+  CHECK(was_killed(status_of(child)));
   CHECK(join_mailbox(&next, name, SHARED_OPEN, true) == SHARED_OK && mailbox_of(&next)->slots[0].state == FREE);
   leave_mailbox(&next);
   leave_mailbox(&it);

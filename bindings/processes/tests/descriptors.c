@@ -68,7 +68,7 @@ static void by_event_loops(void) {
     while (receive(&domain, &subscriber, &number)) CHECK(number == expected++);
     if (expected <= MESSAGES) CHECK(epoll_wait(loop, &event, 1, HOUR_MS) == 1);
   }
-  CHECK(kill(child, SIGKILL) == 0 && WIFSIGNALED(status_of(child)) && close(loop) == 0);
+  CHECK(kill(child, SIGKILL) == 0 && was_killed(status_of(child)) && close(loop) == 0);
   destroy(&domain);
 }
 
@@ -121,7 +121,7 @@ static size_t count_files(const char *what) {
 static void who_died_with_one(void) {
   iox2ps_domain_t domain = opened(HOUR_MS), other = IOX2PS_DOMAIN_INIT;
   const sleepers_shared_t *sleepers = shared_domain_of(&domain)->group->member.files.sleepers;
-  CHECK(count_files("wake.*") == 0 && WIFSIGNALED(status_of(child_that(keep_a_descriptor))) && count_files("wake.1") == 1);
+  CHECK(count_files("wake.*") == 0 && was_killed(status_of(child_that(keep_a_descriptor))) && count_files("wake.1") == 1);
   CHECK(sleepers->by_descriptor == 2 && iox2ps_domain_cleanup_dead_nodes(&domain, NULL) == IOX2PS_OK);
   CHECK(status_of(child_that(send_one)) == 0 && sleepers->by_descriptor == 0 && count_files("wake.1") == 1); /* in its place */
   CHECK(iox2ps_domain_get_file_descriptor(&other, IOX2PS_BRINGS_MESSAGE, &(int){0}) == IOX2PS_NO_DOMAIN);
@@ -147,7 +147,7 @@ static void a_death(void) {
   int fd = descriptor_of(&domain, IOX2PS_BRINGS_DEAD_NODE);
   CHECK(iox2ps_domain_set_dead_node_listener(&domain, note, &died) == IOX2PS_OK);
   pid_t child = child_that(dies_with_a_publisher);
-  CHECK(WIFSIGNALED(status_of(child)));
+  CHECK(was_killed(status_of(child)));
   while (died == 0) {
     CHECK(poll(&(struct pollfd){.fd = fd, .events = POLLIN}, 1, HOUR_MS) == 1);
     clear(&domain);

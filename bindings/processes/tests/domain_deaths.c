@@ -66,7 +66,7 @@ static uint64_t receive_all(iox2ps_domain_t *domain, const iox2ps_subscriber_t *
 
 static void kill_and_wait(pid_t child) {
   int status;
-  CHECK(kill(child, SIGKILL) == 0 && waitpid(child, &status, 0) == child && WIFSIGNALED(status));
+  CHECK(kill(child, SIGKILL) == 0 && waitpid(child, &status, 0) == child && was_killed(status));
 }
 
 static size_t books_of(iox2ps_domain_t *domain) {

@@ -37,7 +37,7 @@ static pid_t start(const iox2ps_config_t *config, uint64_t seed) {
 
 static void end(pid_t child) {
   int status;
-  CHECK(kill(child, SIGKILL) == 0 && waitpid(child, &status, 0) == child && WIFSIGNALED(status));
+  CHECK(kill(child, SIGKILL) == 0 && waitpid(child, &status, 0) == child && was_killed(status));
 }
 
 /* All callers are dead. */

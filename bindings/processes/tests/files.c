@@ -286,7 +286,7 @@ static void dead_creator(void) {
     raise(SIGKILL);
   }
   int status;
-  CHECK(waitpid(creator, &status, 0) == creator && WIFSIGNALED(status));
+  CHECK(waitpid(creator, &status, 0) == creator && was_killed(status));
   CHECK(is_there(0) && is_there(1));
   refused(settings_of(name, true), SHARED_OPEN, SHARED_NO_SUCH, "nobody has");
   member_t it;

@@ -33,7 +33,6 @@ static void destroy_both(void) {
   for (int i = 0; i < DOMAINS; i++) CHECK(iox2ps_domain_destroy(both[i]) == IOX2PS_OK && both[i]->domain_ == NULL);
 }
 
-
 /* Until a child has done what is waited for: it lives. */
 static void wait_for(pid_t child) {
   CHECK(waitpid(child, NULL, WNOHANG) == 0);
@@ -70,7 +69,7 @@ static void requests_and_responses(void) {
     send_number(&one, &requests, 10 * i);
     CHECK(receive_number(&two, &responses) == 10 * i + 1);
   }
-  CHECK(kill(server, SIGKILL) == 0 && WIFSIGNALED(status_of(server)));
+  CHECK(kill(server, SIGKILL) == 0 && was_killed(status_of(server)));
   for (int i = 0; i < DOMAINS; i++) {
     uint64_t deaths;
     CHECK(iox2ps_domain_cleanup_dead_nodes(both[i], NULL) == IOX2PS_OK && iox2ps_domain_dead_node_count(both[i], &deaths) == IOX2PS_OK && deaths == 1);
@@ -112,11 +111,27 @@ static void destroys_one(void) {
   CHECK(iox2ps_publisher_is_blocked(&two, &publisher, &is_blocked) == IOX2PS_NOT_LIVE && iox2ps_publisher_close(&one, &other) == IOX2PS_NOT_LIVE);
   pid_t child = run_child(make_ports, 0);
   while (counts_of(&two).publishers != 2 || counts_of(&one).publishers != 1 || counts_of(&two).subscribers != 2) wait_for(child);
-  CHECK(counts_of(&one).processes == 2 && counts_of(&one).subscribers == 0 && kill(child, SIGKILL) == 0 && WIFSIGNALED(status_of(child)));
+  CHECK(counts_of(&one).processes == 2 && counts_of(&one).subscribers == 0 && kill(child, SIGKILL) == 0 && was_killed(status_of(child)));
   CHECK(iox2ps_domain_cleanup_dead_nodes(&two, NULL) == IOX2PS_OK && counts_of(&two).publishers == 1 && counts_of(&one).publishers == 1);
   CHECK(iox2ps_domain_destroy(&two) == IOX2PS_OK && iox2ps_publisher_is_blocked(&one, &publisher, &is_blocked) == IOX2PS_OK);
   CHECK(iox2ps_domain_open(&two, name, "response", &configs[1], NULL) == IOX2PS_OPEN_ERROR_INCOMPATIBLE_SETTINGS && two.domain_ == NULL);
   CHECK(iox2ps_domain_destroy(&one) == IOX2PS_OK);
+}
+
+/* A loan of the second is written though the first has no publisher any more. */
+static void writes_in_the_second(void) {
+  iox2ps_publisher_t first, second;
+  iox2ps_subscriber_t subscriber;
+  iox2ps_loan_t loan;
+  iox2ps_blocked_t blocked;
+  void *payload;
+  size_t receivers;
+  open_both();
+  CHECK(iox2ps_publisher_create(&one, &first) == IOX2PS_OK && iox2ps_publisher_create(&two, &second) == IOX2PS_OK && iox2ps_subscriber_create(&two, &subscriber) == IOX2PS_OK);
+  CHECK(iox2ps_publisher_loan_uninit(&two, &second, sizeof(uint64_t), &loan, &payload) == IOX2PS_OK && iox2ps_publisher_close(&one, &first) == IOX2PS_OK);
+  *(volatile uint64_t *)payload = 7;
+  CHECK(iox2ps_loan_send(&two, &loan, &receivers, &blocked) == IOX2PS_OK && receivers == 1 && receive_number(&two, &subscriber) == 7);
+  destroy_both();
 }
 
 /* ---- kills */
@@ -154,7 +169,7 @@ static void join_both(uint64_t seed) {
 
 static void compare_with_joined(void) {
   state_t before = state_now();
-  CHECK(before.calls > 100 && WIFSIGNALED(status_of(run_child(join_both, 0))) && memcmp(&before, common, sizeof before) == 0);
+  CHECK(before.calls > 100 && was_killed(status_of(run_child(join_both, 0))) && memcmp(&before, common, sizeof before) == 0);
 }
 
 static void check_nothing_is_left(void) {
@@ -177,11 +192,11 @@ static void kill_callers(int kills) {
     for (int i = 0; i < CHECK_EVERY; i++) {
       pid_t *which = &callers[random_below(&random, CALLERS)];
       nanosleep(&(struct timespec){.tv_nsec = 600000 + (long)random_below(&random, 3000000)}, NULL);
-      CHECK(kill(*which, SIGKILL) == 0 && WIFSIGNALED(status_of(*which)));
+      CHECK(kill(*which, SIGKILL) == 0 && was_killed(status_of(*which)));
       *which = run_child(call_on_both, random_below(&random, 1 << 30));
     }
     for (uint64_t made = 0; made < 200; wait_for(callers[0])) made = state_now().calls; /* a slow machine may have killed all before they called */
-    for (int i = 0; i < CALLERS; i++) CHECK(kill(callers[i], SIGKILL) == 0 && WIFSIGNALED(status_of(callers[i])));
+    for (int i = 0; i < CALLERS; i++) CHECK(kill(callers[i], SIGKILL) == 0 && was_killed(status_of(callers[i])));
     CHECK(iox2ps_domain_cleanup_dead_nodes(&two, NULL) == IOX2PS_OK);
     compare_with_joined();
     check_nothing_is_left();
@@ -242,6 +257,7 @@ int main(int count, char **words) {
   refusals();
   requests_and_responses();
   destroys_one();
+  writes_in_the_second();
   kill_callers(count > 1 && strcmp(words[1], "whole") == 0 ? WHOLE : SHORT);
   return 0;
 }

@@ -75,7 +75,7 @@ static pid_t start(uint64_t seed) {
 
 static void end(pid_t child) {
   int status;
-  CHECK(kill(child, SIGKILL) == 0 && waitpid(child, &status, 0) == child && WIFSIGNALED(status));
+  CHECK(kill(child, SIGKILL) == 0 && waitpid(child, &status, 0) == child && was_killed(status));
 }
 
 static bool is_like_keeper(const member_t *it) { return memcmp(it->replica.memory, keeper.replica.memory, sizeof(mailbox_t)) == 0; }

@@ -52,7 +52,7 @@ static iox2ps_wide_t die_after_sending(size_t len) {
     raise(SIGKILL);
   }
   CHECK(read(ids[0], &id, sizeof id) == sizeof id && close(ids[0]) == 0 && close(ids[1]) == 0);
-  CHECK(waitpid(child, &status, 0) == child && WIFSIGNALED(status) && (id.low & 0x3fffff) == (uint64_t)child);
+  CHECK(waitpid(child, &status, 0) == child && was_killed(status) && (id.low & 0x3fffff) == (uint64_t)child);
   return id;
 }
 
@@ -249,7 +249,7 @@ static void room_of_the_dead(void) {
     if (child == 0) hold_all(told[1]);
     CHECK(child > 0 && read(told[0], &(char){0}, 1) == 1);
     CHECK(iox2ps_publisher_send_copy(&domain, &publisher, "", 1, NULL, &(iox2ps_blocked_t){0}) == IOX2PS_OK);
-    CHECK(waitpid(child, &status, 0) == child && WIFSIGNALED(status));
+    CHECK(waitpid(child, &status, 0) == child && was_killed(status));
     if (turn == 1) CHECK(iox2ps_domain_cleanup_dead_nodes(&domain, NULL) == IOX2PS_OK); /* also if that was known */
     if (turn < 2) CHECK(iox2ps_publisher_loan(&domain, &publisher, 1, &loan, &payload) == IOX2PS_OK && iox2ps_loan_discard(&domain, &loan) == IOX2PS_OK);
     else for (int i = 0; i < 2; i++) CHECK(iox2ps_subscriber_create(&domain, &(iox2ps_subscriber_t){0}) == IOX2PS_OK);

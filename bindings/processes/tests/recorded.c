@@ -65,7 +65,7 @@ static void record_callers(bool prints) {
   options.payload_room = 1 << 20, options.book_room = 1 << 20, options.max_processes = CALLERS + 2;
   CHECK(iox2ps_domain_create_named_recorded(&domain, name, "words", &config, &options, COMMANDS) == IOX2PS_OK);
   for (int i = 0; i < CALLERS; i++) callers[i] = run_child(run_caller, 1 + (uint64_t)i);
-  for (int i = 0; i < CALLERS; i++) CHECK(i == 0 ? WIFSIGNALED(status_of(callers[i])) : status_of(callers[i]) == 0);
+  for (int i = 0; i < CALLERS; i++) CHECK(i == 0 ? was_killed(status_of(callers[i])) : status_of(callers[i]) == 0);
   CHECK(iox2ps_domain_cleanup_dead_nodes(&domain, NULL) == IOX2PS_OK && read_recording(&domain, text) == 0);
   CHECK(status_of(run_child(run_reader, 0)) == 0 && strcmp(text, common->text) == 0);
   CHECK(common->received > 0 && count_of(text, " = sample ") == common->received);

@@ -297,7 +297,7 @@ static void dead_publishers(void) {
   iox2ps_publisher_t publisher;
   size_t books;
   for (int i = 0; i < 3; i++) {
-    CHECK(WIFSIGNALED(status_of(child_that(dies_with_publishers))));
+    CHECK(was_killed(status_of(child_that(dies_with_publishers))));
     CHECK(iox2ps_publisher_create(&domain, &publisher) == IOX2PS_OK && iox2ps_domain_book_count(&domain, &books) == IOX2PS_OK && books == 1);
     CHECK(iox2ps_publisher_close(&domain, &publisher) == IOX2PS_OK);
   }
@@ -321,7 +321,7 @@ static void told_publisher(void) {
   size_t receivers;
   uint32_t is_blocked;
   CHECK(pipe(numbers) == 0 && iox2ps_subscriber_create(&domain, &subscriber) == IOX2PS_OK);
-  CHECK(WIFSIGNALED(status_of(child_that(dies_with_told_publisher))) && read(numbers[0], &publisher, sizeof publisher) == sizeof publisher);
+  CHECK(was_killed(status_of(child_that(dies_with_told_publisher))) && read(numbers[0], &publisher, sizeof publisher) == sizeof publisher);
   for (size_t i = 0; i < good.subscriber_max_buffer_size; i++) CHECK(iox2ps_publisher_send_copy(&domain, &publisher, "", 1, &receivers, &blocked) == IOX2PS_OK);
   CHECK(iox2ps_publisher_send_copy(&domain, &publisher, "", 1, &receivers, &blocked) == IOX2PS_BLOCKED);
   CHECK(iox2ps_publisher_is_blocked(&domain, &publisher, &is_blocked) == IOX2PS_OK && is_blocked == 1);

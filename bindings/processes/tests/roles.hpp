@@ -53,7 +53,7 @@ inline pid_t started(const char *role, const std::string &name) {
 }
 inline void kill_it(pid_t child) {
   CHECK(kill(child, SIGKILL) == 0);
-  CHECK(WIFSIGNALED(status_of(child)));
+  CHECK(was_killed(status_of(child)));
 }
 
 /* Looks ever less often, so that whoever looks on can tell that it waits for good. */

@@ -142,7 +142,7 @@ static void ports_come_and_go(void) {
   CHECK(iox2ps_domain_destroy(&it.domain) == IOX2PS_OK);
 }
 
-/* What a domain takes of memory beside its payloads, by default. */
+/* What a domain takes of memory beside its payloads, by default (docs/DECISIONS.md, "Room for two copies of each process"). */
 static void file_by_default(void) {
   iox2ps_domain_t domain = IOX2PS_DOMAIN_INIT;
   iox2ps_config_t config;

@@ -180,7 +180,7 @@ static void disturb(const pid_t members[MEMBERS]) {
   pause_for(below(2 * ROUND_MS * UINT64_C(1000000) / EVENTS));
   CHECK(kill(stopped, SIGSTOP) == 0);
   total.stops++;
-  CHECK(kill(victim, SIGKILL) == 0 && waitpid(victim, &status, 0) == victim && WIFSIGNALED(status));
+  CHECK(kill(victim, SIGKILL) == 0 && waitpid(victim, &status, 0) == victim && was_killed(status));
   pause_for(below(20000000));
   CHECK(kill(stopped, SIGCONT) == 0);
 }

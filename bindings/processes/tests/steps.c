@@ -2,6 +2,7 @@
 #define _GNU_SOURCE
 /* A process is stopped before an access to shared memory, and then killed: as it creates, joins, takes the place of a dead one over, reaps,
  * calls, copies and leaves. While it is stopped, no call of another takes more accesses than a bound; when it is dead, all that it had is given back.
+ * And several are stopped while each copies: whoever joins has a copy, then and when they have gone on.
  *
  *   steps          before every eleventh access
  *   steps whole    before each */
@@ -48,13 +49,25 @@ static void live(void) {
   leave_mailbox(&it);
 }
 
-/* Starts a process that stops before this access. False if it comes to its end first. */
-static bool start(uint64_t access, pid_t *child) {
+/* Copies and leaves, and stops in the copy alone. */
+static void copy(void) {
+  member_t it;
+  uint64_t access = stops_at;
+  stops_at = 0;
+  CHECK(join_mailbox(&it, name, SHARED_OPEN, false) == SHARED_OK);
+  accesses = 0, stops_at = access;
+  copies_make(&it.replica.copies, it.replica.place, it.replica.memory->progress.made, it.replica.memory, sizeof(mailbox_t));
+  stops_at = 0;
+  leave_mailbox(&it);
+}
+
+/* Starts a process that does this and stops before this access. False if it comes to its end first. */
+static bool start_that(void (*runs)(void), uint64_t access, pid_t *child) {
   *child = fork_child();
   CHECK(*child >= 0);
   if (*child == 0) {
     accesses = 0, stops_at = access;
-    live();
+    runs();
     _exit(0);
   }
   int status;
@@ -63,17 +76,25 @@ static bool start(uint64_t access, pid_t *child) {
   return WIFSTOPPED(status);
 }
 
+static bool start(uint64_t access, pid_t *child) { return start_that(live, access, child); }
+
 static void end(pid_t child) { CHECK(kill(child, SIGKILL) == 0 && waitpid(child, NULL, 0) == child); }
+
+/* Who joins has the same object. */
+static void check_joins(member_t *it) {
+  member_t joins;
+  CHECK(replica_follow(&it->replica, UINT64_MAX, false) == REPLICA_OK);
+  CHECK(join_mailbox(&joins, name, SHARED_OPEN, false) == SHARED_OK);
+  CHECK(memcmp(joins.replica.memory, it->replica.memory, sizeof(mailbox_t)) == 0);
+  leave_mailbox(&joins);
+}
 
 /* Nothing is left of others, and who joins has the same object. */
 static void check_all_is_given_back(member_t *it) {
   make_calls(it);
   for (int slot = 0; slot < SLOTS; slot++) CHECK(mailbox_of(it)->slots[slot].state == FREE);
   for (uint32_t place = 1; place < PLACES; place++) CHECK(it->files.places.shared->numbers[place] == 0);
-  member_t joins;
-  CHECK(join_mailbox(&joins, name, SHARED_OPEN, false) == SHARED_OK);
-  CHECK(memcmp(joins.replica.memory, it->replica.memory, sizeof(mailbox_t)) == 0);
-  leave_mailbox(&joins);
+  check_joins(it);
 }
 
 /* Has a slot, and dies. */
@@ -140,6 +161,33 @@ static uint64_t kill_creators(uint64_t stride) {
   return count;
 }
 
+/* More calls than the list has. Not as many each time, so that the last copy that comes due lies in either buffer. */
+static void make_many_calls(member_t *it, uint64_t round) {
+  for (uint64_t i = 0; i < 6 + round % 4; i++) make_calls(it);
+}
+
+/* All but one, and a place for who joins. */
+static uint64_t stop_copiers(uint64_t stride) {
+  enum { COPIERS = PLACES - 2 };
+  uint64_t count = 0, round = 0;
+  member_t it;
+  CHECK(join_mailbox(&it, name, SHARED_CREATE, true) == SHARED_OK);
+  bool goes_on = true;
+  for (uint64_t access = 1; goes_on; access += stride, round++) {
+    pid_t children[COPIERS];
+    int stopped = 0;
+    while (stopped < COPIERS && (goes_on = start_that(copy, access, &children[stopped]))) make_calls(&it), check_joins(&it), stopped++;
+    make_many_calls(&it, round);
+    check_joins(&it);
+    for (int i = 0; i < stopped; i++) CHECK(kill(children[i], SIGCONT) == 0 && status_of(children[i]) == 0);
+    check_joins(&it);
+    count += (uint64_t)stopped;
+  }
+  check_all_is_given_back(&it);
+  leave_mailbox(&it);
+  return count;
+}
+
 int main(int argument_count, char **arguments) {
   uint64_t stride = argument_count > 1 && strcmp(arguments[1], "whole") == 0 ? 1 : 11;
   snprintf(name, sizeof name, "test_steps.%d", (int)getpid());
@@ -148,6 +196,8 @@ int main(int argument_count, char **arguments) {
   count += kill_members(stride > 3 ? 3 : stride, false, false); /* so that some die between what they announce and its swap */
   count += kill_in_a_full_one(stride);
   count += kill_creators(stride);
-  printf("%llu processes were stopped and killed, and a call took %llu accesses at most\n", (unsigned long long)count, (unsigned long long)most);
+  uint64_t copiers = stop_copiers(stride);
+  printf("%llu processes were stopped and killed, and %llu stopped while they copied; a call took %llu accesses at most\n", (unsigned long long)count,
+         (unsigned long long)copiers, (unsigned long long)most);
   return 0;
 }

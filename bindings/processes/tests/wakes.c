@@ -270,7 +270,7 @@ static void nobody_wakes(void) {
   wait_for_ready(1);
   uint64_t stops = 0;
   for (uint64_t number = 1; number <= 2; number++) stops += send_number(&domain, &publisher, number);
-  CHECK(stops == 1 && waitpid(child, &status, 0) == child && WIFSIGNALED(status));
+  CHECK(stops == 1 && waitpid(child, &status, 0) == child && was_killed(status));
   destroy(&domain);
 }
 
