@@ -14,13 +14,12 @@ copies_t copies_at(void *memory, uint32_t places, size_t room) {
 
 static _Atomic uint64_t *buffer_of(const copies_t *copies, uint32_t which) { return copies->buffers + which * (copies->room / COPY_UNIT); }
 
-/* Two sums that are made while the words go by: of the words, and of the first sum, so that their order counts. */
-typedef struct sums_t { uint64_t words, sums; } sums_t;
-static void add_to(sums_t *it, uint64_t word) {
+static const copy_sums_t NO_WORDS = {1, 2};
+static void add_to(copy_sums_t *it, uint64_t word) {
   it->words += word;
   it->sums += it->words;
 }
-static uint64_t sum_of(sums_t it, size_t size) { return (it.words ^ size) * UINT64_C(0x9e3779b97f4a7c15) ^ it.sums; }
+static uint64_t sum_of(copy_sums_t it, size_t size) { return (it.words ^ size) * UINT64_C(0x9e3779b97f4a7c15) ^ it.sums; }
 
 /* The buffer of the place that isn't the newest copy, and of two such the older. Only this process makes one of them the newest,
  * so relaxed loads see it if it is. */
@@ -33,31 +32,49 @@ static uint32_t free_buffer(const copies_t *copies, uint32_t place) {
   return end <= atomic_load_explicit(&copies->heads[second].end, memory_order_relaxed) ? first : second;
 }
 
-void copies_make(const copies_t *copies, uint32_t place, uint64_t made, const void *object, size_t size) {
+copy_making_t copies_begin(const copies_t *copies, uint32_t place, uint64_t made, const void *object, size_t size) {
   uint32_t which = free_buffer(copies, place);
-  copy_head_t *head = &copies->heads[which];
-  _Atomic uint64_t *buffer = buffer_of(copies, which);
-  const uint64_t *words = object;
-  sums_t sums = {1, 2};
-  size_t count = size / COPY_UNIT;
-  atomic_store_explicit(&head->end, 0, memory_order_relaxed);
+  atomic_store_explicit(&copies->heads[which].end, 0, memory_order_relaxed);
   /* Release: whoever reads a word of the new copy sees at its second look that `end` has changed. A release store to `end`
    * wouldn't do, since it doesn't hold back later stores. Here and in the three below, what is weaker loads torn copies. */
   atomic_thread_fence(memory_order_release);
+  return (copy_making_t){.which = which, .made = made, .words = object, .count = size / COPY_UNIT, .sums = NO_WORDS};
+}
+
+/* All of its words are there. */
+static void end_copy(const copies_t *copies, const copy_making_t *it) {
+  copy_head_t *head = &copies->heads[it->which];
+  size_t size = it->count * COPY_UNIT;
+  atomic_store_explicit(&head->size, size, memory_order_relaxed);
+  atomic_store_explicit(&head->sum, sum_of(it->sums, size), memory_order_relaxed);
+  /* Release: whoever sees this end sees the whole copy. */
+  atomic_store_explicit(&head->end, it->made + 1, memory_order_release);
+  uint64_t mine = (it->made + 1) << COPY_BUFFER_BITS | it->which, newest = atomic_load_explicit(copies->newest, memory_order_relaxed);
+  /* Relaxed: whoever takes the copy looks at `end`, too. */
+  while (newest >> COPY_BUFFER_BITS < it->made + 1
+         && !atomic_compare_exchange_weak_explicit(copies->newest, &newest, mine, memory_order_relaxed, memory_order_relaxed)) {
+  }
+}
+
+bool copies_go_on(const copies_t *copies, copy_making_t *it, size_t most) {
+  _Atomic uint64_t *buffer = buffer_of(copies, it->which);
+  const uint64_t *words = it->words;
+  copy_sums_t sums = it->sums;
+  size_t end = most < it->count - it->done ? it->done + most : it->count;
 #pragma GCC unroll 8
-  for (size_t i = 0; i < count; i++) {
+  for (size_t i = it->done; i < end; i++) {
     add_to(&sums, words[i]);
     atomic_store_explicit(&buffer[i], words[i], memory_order_relaxed);
   }
-  atomic_store_explicit(&head->size, size, memory_order_relaxed);
-  atomic_store_explicit(&head->sum, sum_of(sums, size), memory_order_relaxed);
-  /* Release: whoever sees this end sees the whole copy. */
-  atomic_store_explicit(&head->end, made + 1, memory_order_release);
-  uint64_t mine = (made + 1) << COPY_BUFFER_BITS | which, newest = atomic_load_explicit(copies->newest, memory_order_relaxed);
-  /* Relaxed: whoever takes the copy looks at `end`, too. */
-  while (newest >> COPY_BUFFER_BITS < made + 1
-         && !atomic_compare_exchange_weak_explicit(copies->newest, &newest, mine, memory_order_relaxed, memory_order_relaxed)) {
-  }
+  it->done = end, it->sums = sums;
+  if (end < it->count) return false;
+  end_copy(copies, it);
+  return true;
+}
+
+void copies_make(const copies_t *copies, uint32_t place, uint64_t made, const void *object, size_t size) {
+  copy_making_t it = copies_begin(copies, place, made, object, size);
+  (void)copies_go_on(copies, &it, it.count);
 }
 
 bool copies_claim(const copies_t *copies, uint64_t made, uint64_t after) {
@@ -78,7 +95,7 @@ copy_load_t copies_load(const copies_t *copies, void *object) {
   const _Atomic uint64_t *buffer = buffer_of(copies, which);
   uint64_t *words = object, size = atomic_load_explicit(&head->size, memory_order_relaxed);
   uint64_t sum = atomic_load_explicit(&head->sum, memory_order_relaxed);
-  sums_t sums = {1, 2};
+  copy_sums_t sums = NO_WORDS;
   bool has_room = size <= copies->room;
   for (size_t i = 0; has_room && i < size / COPY_UNIT; i++) {
     words[i] = atomic_load_explicit(&buffer[i], memory_order_relaxed);

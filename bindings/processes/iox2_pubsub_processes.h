@@ -19,9 +19,10 @@
  *  - what a process had that died is given back by the others. Whoever opens the domain, or is refused for want of room, looks for the
  *    dead at once; who waits, or finds nothing to receive, each reap_every_ms. A program that does none of these for long calls
  *    iox2ps_domain_cleanup_dead_nodes() now and then;
- *  - each half of the list of calls brings a copy of all book-keeping, which a process makes that finds nothing to receive, or else the
- *    one whose call is next. A process without ports that waits in iox2ps_domain_wait() makes it before them: so none who passes
- *    messages has to, however large the book-keeping is, as long as that process looks often enough: by its spins;
+ *  - each half of the list of calls brings a copy of all book-keeping. A process that waits or finds nothing to receive makes it in pieces
+ *    of 2 KB, between which it looks for messages, of the book-keeping as it put it aside at a time; or else the one whose call is next
+ *    makes it at once. A process without ports that waits in iox2ps_domain_wait() makes it before them: so none who passes messages has
+ *    to, however large the book-keeping is, as long as that process looks often enough: by its spins;
  *  - a type of messages has to be plain bytes, without pointers. Its name, size and alignment are compared, and so are all settings
  *    of iox2ps_config_t and the builds of the library;
  *  - a child of a fork has no part in the domain: its calls return IOX2PS_PROCESSES_FORKED. It may destroy it. Until then it may read
@@ -67,8 +68,8 @@ typedef struct iox2ps_processes_options_t {
   uint32_t max_processes; /**< 16 by default, and 64 at most */
   uint32_t calls;         /**< how many calls the list keeps, a power of two from 8 to 8192; by default 256, or one for 256 bytes of
                                book_room. Who is further behind takes a copy of all book-keeping */
-  size_t book_room;       /**< bytes for the book-keeping of ports; by default what the settings need. The file has 32 copies of it for 16
-                               processes: 2.7 MB by default settings, beside the payloads */
+  size_t book_room;       /**< bytes for the book-keeping of ports; by default what the settings need. Each process has it twice, and the file
+                               32 copies of it for 16 processes: 2.7 MB by default settings, beside the payloads */
   size_t payload_room;    /**< bytes for payloads; by default those of max_publishers publishers and one more, which don't grow */
   uint32_t permissions;   /**< of the files, whatever the process' mask of new files is; 0600 by default */
   uint32_t reap_every_ms; /**< how often a process that waits or polls looks for dead ones, which its second look finds at the latest; 200 by default */

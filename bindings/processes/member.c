@@ -69,15 +69,17 @@ replica_status_t member_look(member_t *it) { return reap_among(it, places_look(&
 
 static uint64_t later(uint64_t now, uint64_t ns) { return ns > UINT64_MAX - now ? UINT64_MAX : now + ns; }
 
-/* Makes the calls of others, and asks whether something is there. */
+/* Makes the calls of others, and asks whether something is there; only then is there time for copies. */
 static replica_status_t look(member_t *it, member_is_there_t *is_there, void *waiter, bool *was_there) {
-  replica_status_t status = replica_follow(&it->replica, UINT64_MAX, true);
+  replica_status_t status = replica_follow(&it->replica, UINT64_MAX, false);
   *was_there = status == REPLICA_OK && is_there(waiter);
+  if (status == REPLICA_OK && !*was_there) replica_idle(&it->replica);
   return status;
 }
 
 /* Says that it sleeps, looks once more, and sleeps for so many ns unless something is there. */
 static replica_status_t sleep_for(member_t *it, uint32_t reasons, member_is_there_t *is_there, void *waiter, uint64_t ns, bool *was_there) {
+  replica_end_copy(&it->replica);
   uint64_t begun = sleepers_begin(it->files.sleepers, it->replica.place, reasons);
   replica_status_t status = look(it, is_there, waiter, was_there);
   bool sleeps = status == REPLICA_OK && !*was_there;

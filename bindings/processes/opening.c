@@ -175,7 +175,7 @@ static iox2ps_status_t enter(shared_group_t *it, const asked_t *asked) {
   if (code != IOX2PS_OK) return code;
   it->member.replica = (replica_t){
     .list = files->list, .copies = files->copies, .apply = group_memory_apply, .memory = &it->memory->replica, .place = files->places.own, .loads = LOADS,
-    .before_copy = group_memory_note_size
+    .before_copy = group_memory_note_size, .snapshot = it->region.snapshot
   };
   it->member.reap_every_ms = asked->options->reap_every_ms, it->member.spins = asked->options->spins;
   it->member.rouse = shared_group_rouse, it->member.rouser = it;

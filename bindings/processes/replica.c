@@ -1,9 +1,38 @@
 // SPDX-License-Identifier: Apache-2.0 OR MIT
 #include "replica.h"
+#include <string.h>
 
-static void make_copy(const replica_t *it) {
+static size_t object_size(const replica_t *it) {
   if (it->before_copy != NULL) it->before_copy(it->memory);
-  copies_make(&it->copies, it->place, it->memory->progress.made, it->memory, it->memory->size);
+  return it->memory->size;
+}
+
+static void make_copy(replica_t *it) {
+  size_t size = object_size(it);
+  copies_make(&it->copies, it->place, it->memory->progress.made, it->memory, size);
+}
+
+/* Begins one of the object as it is now, and makes no piece of it yet: so who looks for a message in between waits for no more than this
+ * (docs/DECISIONS.md, "Who looks for messages copies in pieces"). */
+static void begin_copy(replica_t *it) {
+  size_t size = object_size(it);
+  memcpy(it->snapshot, it->memory, size);
+  it->making = copies_begin(&it->copies, it->place, it->memory->progress.made, it->snapshot, size);
+  it->is_copying = true;
+}
+
+static void go_on_copying(replica_t *it, size_t most) {
+  if (copies_go_on(&it->copies, &it->making, most)) it->is_copying = false;
+}
+
+/* Whether this process is making a copy that nobody has overtaken. */
+static bool is_copying(replica_t *it) {
+  if (it->is_copying && it->making.made < copies_newest(&it->copies)) it->is_copying = false;
+  return it->is_copying;
+}
+
+void replica_end_copy(replica_t *it) {
+  if (is_copying(it)) go_on_copying(it, SIZE_MAX);
 }
 
 /* By the newest copy that this process has heard of. */
@@ -11,14 +40,29 @@ static bool is_copy_due(const replica_t *it, uint64_t after) { return it->memory
 
 /* Half a list at most, so that whoever finds its next call overwritten finds a copy that is further. */
 void replica_copy_if_due(replica_t *it) {
-  if (is_copy_due(it, it->list.length / 2)) make_copy(it);
-  it->copy_due = copies_newest(&it->copies) + it->list.length / 2 - 1;
+  uint64_t after = it->list.length / 2;
+  if (is_copy_due(it, after)) replica_end_copy(it);
+  if (is_copy_due(it, after)) make_copy(it);
+  it->copy_due = copies_newest(&it->copies) + after - 1;
 }
 
-/* Before it is due, by one of those that have time; if that one dies or is stopped, it is made when it is due. */
-static void copy_early(const replica_t *it) {
-  uint64_t after = it->list.length / 8 * (it->only_follows ? 1 : 3);
-  if (is_copy_due(it, after) && copies_claim(&it->copies, it->memory->progress.made, after)) make_copy(it);
+/* How many calls behind the newest copy the next one is begun: so early that its pieces are made before it is due, as calls go by meanwhile,
+ * and no earlier, so that who only follows makes most. */
+static uint64_t early(const replica_t *it) {
+  enum { CALLS_OF_PIECE = 4 };
+  uint64_t length = it->list.length, needs = CALLS_OF_PIECE * (object_size(it) / (COPY_PIECE * COPY_UNIT) + 1);
+  if (needs < length / 8) needs = length / 8;
+  return length / 2 - (needs < length / 4 ? needs : length / 4);
+}
+
+/* By one of those that have time; if that one dies or is stopped, the copy is made when it is due. Who only follows has so much time that it
+ * makes it at once. */
+void replica_idle(replica_t *it) {
+  uint64_t after = it->only_follows ? it->list.length / 8 : early(it);
+  if (is_copying(it)) go_on_copying(it, COPY_PIECE);
+  else if (!is_copy_due(it, after) || !copies_claim(&it->copies, it->memory->progress.made, after)) return;
+  else if (it->only_follows || it->snapshot == NULL) make_copy(it);
+  else begin_copy(it);
 }
 
 static replica_status_t load(replica_t *it) {
@@ -74,7 +118,7 @@ replica_status_t replica_join(replica_t *it) {
 
 replica_status_t replica_follow(replica_t *it, uint64_t most, bool is_idle) {
   replica_status_t status = follow(it, most, UINT64_MAX, NULL);
-  if (status == REPLICA_OK && is_idle) copy_early(it);
+  if (status == REPLICA_OK && is_idle) replica_idle(it);
   return status;
 }
 

@@ -13,6 +13,11 @@ typedef struct replica_memory_t {
   call_progress_t progress;
 } replica_memory_t;
 
+/* How many words of a copy a process writes at a time that has nothing better to do. */
+#ifndef COPY_PIECE
+#define COPY_PIECE 256
+#endif
+
 typedef struct replica_t {
   call_list_t list;
   copies_t copies;
@@ -23,6 +28,10 @@ typedef struct replica_t {
   void (*before_copy)(replica_memory_t *memory); /* notes the size; or null, where that stays */
   uint64_t copy_due; /* no copy is due before so many calls are made */
   bool only_follows; /* this process has no part in what the calls are for, and so makes copies before any other */
+  /* Room for the object as it was when a copy was begun that is made in pieces; or null, and each is made at once. */
+  void *snapshot;
+  bool is_copying;
+  copy_making_t making; /* of the snapshot, while `is_copying` */
 } replica_t;
 
 typedef enum replica_status_t {
@@ -36,11 +45,15 @@ typedef enum replica_status_t {
 void replica_create(replica_t *it);
 /* Loads the newest copy, and makes the calls that came since. By a process that joins. */
 replica_status_t replica_join(replica_t *it);
-/* Makes the calls that others added, at most so many. `is_idle`: this process has nothing better to do, and so makes the
- * copy that will be due, unless another such process does. */
+/* Makes the calls that others added, at most so many. `is_idle`: this process has nothing better to do, whatever they are. */
 replica_status_t replica_follow(replica_t *it, uint64_t most, bool is_idle);
-/* Makes a copy if the newest one is old, before a call is added. */
+/* This process has nothing better to do, and so begins the copy that will be due, or makes the next piece of it, unless another such process
+ * does. */
+void replica_idle(replica_t *it);
+/* Makes a copy if the newest one is old, or ends the one that it is making, before a call is added. */
 void replica_copy_if_due(replica_t *it);
+/* Makes what is left of the copy that this process has begun: before it sleeps. */
+void replica_end_copy(replica_t *it);
 /* Adds calls until the one that this process has announced is among them, and makes them. `announced`: its arguments, or null. */
 replica_status_t replica_add_announced(replica_t *it, const uint64_t *announced);
 /* Announces a call of the place, and adds one. True if that is it, which so is to be made next; otherwise `replica_add_announced`

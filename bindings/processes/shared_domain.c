@@ -48,8 +48,7 @@ bool shared_group_has_handles(const shared_group_t *it) {
 iox2ps_status_t shared_domain_idle(shared_domain_t *it) {
   if (it->group->broken != IOX2PS_OK) return it->group->broken;
   it->group->member.replica.only_follows = false;
-  replica_status_t status = replica_follow(&it->group->member.replica, UINT64_MAX, true);
-  if (status != REPLICA_OK) return shared_group_break(it->group, status);
+  replica_idle(&it->group->member.replica);
   return shared_domain_reap_in_time(it);
 }
 

@@ -96,7 +96,7 @@ iox2ps_status_t shared_domain_wait(shared_domain_t *it, uint32_t brings, member_
 iox2ps_status_t shared_domain_follow(shared_domain_t *it);
 /* Whether this process has ports of its domains, or messages. */
 bool shared_group_has_handles(const shared_group_t *it);
-/* There is nothing better to do: makes the copy that will be due, and looks for the dead now and then. */
+/* There is nothing better to do: begins the copy that will be due, or makes a piece of it, and looks for the dead now and then. */
 iox2ps_status_t shared_domain_idle(shared_domain_t *it);
 /* Gives back what processes had that died, and tells of them. `found` may be null. */
 iox2ps_status_t shared_domain_reap(shared_domain_t *it, size_t *found);

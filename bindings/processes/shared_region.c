@@ -59,12 +59,16 @@ region_status_t shared_region_map(shared_region_t *it, uint64_t address, size_t 
   if (status != REGION_OK) return status;
   it->payloads = it->memory + it->room;
   /* All of it is touched, so that no call waits for a page. */
-  if (mmap(it->memory, it->room, PROT_READ | PROT_WRITE, MAP_PRIVATE | MAP_ANONYMOUS | MAP_FIXED | MAP_POPULATE, -1, 0) != MAP_FAILED) return REGION_OK;
+  bool has_memory = mmap(it->memory, it->room, PROT_READ | PROT_WRITE, MAP_PRIVATE | MAP_ANONYMOUS | MAP_FIXED | MAP_POPULATE, -1, 0) != MAP_FAILED;
+  void *snapshot = mmap(NULL, it->room, PROT_READ | PROT_WRITE, MAP_PRIVATE | MAP_ANONYMOUS | MAP_POPULATE, -1, 0);
+  if (snapshot != MAP_FAILED) it->snapshot = snapshot;
+  if (has_memory && it->snapshot != NULL) return REGION_OK;
   shared_region_unmap(it);
   return REGION_NO_MEMORY;
 }
 
 void shared_region_unmap(shared_region_t *it) {
   if (it->memory != NULL) munmap(it->memory, size_of(it));
+  if (it->snapshot != NULL) munmap(it->snapshot, it->room);
   *it = (shared_region_t){0};
 }

@@ -11,6 +11,7 @@
 
 typedef struct shared_region_t {
   char *memory, *payloads; /* `memory` is null where there is none */
+  char *snapshot;          /* as much again, anywhere: the memory as it was, while a copy of it is made */
   size_t room, payload_room;
 } shared_region_t;
 

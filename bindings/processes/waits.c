@@ -60,6 +60,7 @@ iox2ps_status_t iox2ps_domain_sleep_begin(iox2ps_domain_t *domain, uint32_t brin
   if (brings != 0 && !domain_brings_are_known(brings)) return IOX2PS_OPEN_ERROR_INVALID_ARGUMENT;
   iox2ps_status_t code = shared->group->broken != IOX2PS_OK ? shared->group->broken : shared_domain_reap_in_time(shared);
   if (code != IOX2PS_OK) return code;
+  replica_end_copy(&shared->group->member.replica);
   *begun = sleepers_begin(shared->group->member.files.sleepers, shared->group->member.replica.place, brings);
   return IOX2PS_OK;
 }

@@ -14,23 +14,27 @@
 #include <stdlib.h>
 #include <string.h>
 
-enum { LENGTH = 2, CALLS = 16, LOADS = 2, END = 1000 };
+enum { CALLS = 16, LOADS = 2, END = 1000 };
 _Static_assert(CALL_PLACES == PROCESSES, "compiled with -DCALL_PLACES=3");
 _Static_assert(CALL_ARGUMENTS == 1, "compiled with -DCALL_WORDS=2");
 
 /* The object: a number that depends on all calls. It lies behind what a copy has beside it. */
 typedef struct object_t { replica_memory_t memory; uint64_t number; } object_t;
 
+/* The first look begins a copy, and others make a piece of it each. */
+enum { LOOKS_OF_COPY = 1 + (sizeof(object_t) / COPY_UNIT + COPY_PIECE - 1) / COPY_PIECE };
+_Static_assert(LOOKS_OF_COPY == 3, "compiled with -DCOPY_PIECE=8");
+
 typedef struct call_t { uint64_t argument; uint32_t place; bool is_end; } call_t;
 
 /* What belongs to a state beside the shared memory and the stacks. */
 static struct state_t {
-  object_t objects[PROCESSES];
+  object_t objects[PROCESSES], snapshots[PROCESSES];
   call_t calls[CALLS]; /* the list as it has to be */
   uint64_t count;
   uint64_t announced[PROCESSES]; /* what each place wants in the list; 0 is nothing */
   uint64_t others[PROCESSES];    /* calls that were added since it was announced */
-  uint32_t left[PROCESSES], copies[PROCESSES]; /* calls and copies that each place still makes */
+  uint32_t left[PROCESSES], looks[PROCESSES]; /* calls that each place still makes, and looks while it has nothing to do */
   uint32_t incarnation[PROCESSES]; /* which process has it */
   uint64_t end[PROCESSES];         /* what a process that took the place over says of the one before */
   uint32_t begins;
@@ -38,12 +42,15 @@ static struct state_t {
 
 typedef struct scenario_t {
   const char *name;
+  uint32_t length;               /* of the list; 2 where it isn't said */
   uint32_t processes, followers; /* the last of them only follow, for so many calls */
   uint64_t follows;
   bool loads_none;               /* whoever is behind goes no further */
+  bool copies_at_once;           /* each look makes a whole copy, as one does of who only follows */
   bool takes_over;               /* a process may begin in the place of a dead one before others say that it died */
   uint32_t prepared;             /* calls of the first that all may see from the beginning */
-  uint32_t deaths, calls[PROCESSES], copies[PROCESSES]; /* at most; calls to make, and copies while there is nothing to do */
+  uint32_t deaths, calls[PROCESSES], looks[PROCESSES]; /* at most; calls to make, and looks while there is nothing to do: LOOKS_OF_COPY of
+                                                          them make a copy in pieces */
   bool is_strong, is_long, joins[PROCESSES];
   uint32_t sleepers;             /* the last of them sleep until all calls of the first are made, and each call wakes them */
 } scenario_t;
@@ -87,10 +94,10 @@ static void check(replica_status_t status) {
 /* A swap took place: if it added a call, that is one that is announced, and a copy is there for who is behind. */
 static void swapped(size_t word) {
   _Atomic uint64_t *at = &region[word];
-  if (at < list.order || at >= list.order + LENGTH) return;
+  if (at < list.order || at >= list.order + list.length) return;
   uint64_t name = explore_newest(at);
   uint32_t place = (uint32_t)(name >> CALL_ENTRY_BITS) & ((1u << CALL_PLACE_BITS) - 1);
-  const call_entry_t *entry = &list.entries[place * 2 * LENGTH + (name & ((1u << CALL_ENTRY_BITS) - 1))];
+  const call_entry_t *entry = &list.entries[place * 2 * list.length + (name & ((1u << CALL_ENTRY_BITS) - 1))];
   uint64_t argument = explore_newest(&entry->words[0]), own = explore_newest(&entry->words[1]);
   if (state.count == CALLS) explore_wrong("the model has too few calls");
   if (call_distance(name, state.count) != 0) explore_wrong("a call is added at another's number");
@@ -99,7 +106,7 @@ static void swapped(size_t word) {
   *wanted = 0;
   state.calls[state.count++] = (call_t){argument, place, own & CALL_IS_END};
   uint64_t newest = explore_newest(copies.newest);
-  if ((newest >> COPY_BUFFER_BITS) - 1 + LENGTH < state.count) explore_wrong("whoever is behind finds no copy");
+  if ((newest >> COPY_BUFFER_BITS) - 1 + list.length < state.count) explore_wrong("whoever is behind finds no copy");
   if (explore_newest(&copies.heads[newest & ((1u << COPY_BUFFER_BITS) - 1)].end) != newest >> COPY_BUFFER_BITS) explore_wrong("the newest copy isn't whole");
   if (!scenario->is_strong) return;
   object_t now = expected(state.count);
@@ -112,7 +119,8 @@ static void swapped(size_t word) {
 
 static replica_t replica_of(uint32_t process) {
   return (replica_t){
-    .list = list, .copies = copies, .apply = apply, .memory = &state.objects[process].memory, .place = process, .loads = scenario->loads_none ? 0 : LOADS
+    .list = list, .copies = copies, .apply = apply, .memory = &state.objects[process].memory, .place = process, .loads = scenario->loads_none ? 0 : LOADS,
+    .snapshot = &state.snapshots[process], .only_follows = scenario->copies_at_once
   };
 }
 
@@ -184,8 +192,8 @@ static void run(uint32_t process) {
       return;
     }
     reap(&it);
-    if (state.copies[process] > 0) {
-      state.copies[process]--;
+    if (state.looks[process] > 0) {
+      state.looks[process]--;
       check(replica_follow(&it, UINT64_MAX, true));
     } else if (state.left[process] > 0) {
       call(&it);
@@ -200,7 +208,7 @@ static void prepare(void) {
   for (uint32_t i = 0; i < PROCESSES; i++) {
     state.objects[i].memory.size = sizeof(object_t);
     state.left[i] = scenario->calls[i];
-    state.copies[i] = scenario->copies[i];
+    state.looks[i] = scenario->looks[i];
     state.incarnation[i] = i + 1;
   }
   for (uint32_t i = 0; i < PROCESSES; i++) members[i] = (member_t){.files = {.sleepers = sleepers}, .replica = replica_of(i)};
@@ -212,8 +220,9 @@ static void prepare(void) {
 
 static void explore_scenario(const scenario_t *which) {
   scenario = which;
-  list = call_list_at(region, scenario->processes, LENGTH);
-  size_t list_words = (call_list_size(scenario->processes, LENGTH) + 63) / 64 * 8;
+  uint32_t length = scenario->length != 0 ? scenario->length : 2;
+  list = call_list_at(region, scenario->processes, length);
+  size_t list_words = (call_list_size(scenario->processes, length) + 63) / 64 * 8;
   copies = copies_at(region + list_words, scenario->processes, sizeof(object_t));
   size_t buffers = (size_t)(copies.buffers - region), end = list_words + copies_size(scenario->processes, sizeof(object_t)) / 8;
   sleepers = (sleepers_shared_t *)(region + end);
@@ -230,12 +239,13 @@ static void explore_scenario(const scenario_t *which) {
 /* Those with `is_long` take minutes, or most of one. */
 static const scenario_t SCENARIOS[] = {
   {.name = "follower", .processes = 2, .followers = 1, .follows = 6, .calls = {6}},
-  {.name = "copied by another", .processes = 3, .followers = 1, .follows = 1, .loads_none = true, .prepared = 2, .calls = {5}, .copies = {[1] = 1}},
+  {.name = "copied by another", .processes = 3, .followers = 1, .follows = 1, .loads_none = true, .prepared = 2, .calls = {5}, .looks = {[1] = LOOKS_OF_COPY}},
   {.name = "two and a follower", .processes = 3, .followers = 1, .follows = 3, .calls = {2, 1}},
   {.name = "joiner", .processes = 2, .followers = 1, .follows = 5, .calls = {5}, .joins = {[1] = true}},
   {.name = "a sleeper", .processes = 2, .sleepers = 1, .calls = {2}},
   {.name = "a death", .processes = 2, .deaths = 1, .calls = {2, 1}},
-  {.name = "a death while it copies", .processes = 2, .deaths = 1, .calls = {0, 1}, .copies = {2}},
+  {.name = "a death while it copies", .processes = 2, .deaths = 1, .calls = {0, 1}, .looks = {2}, .copies_at_once = true},
+  {.name = "a copy in pieces", .length = 4, .processes = 3, .deaths = 1, .followers = 1, .follows = 4, .prepared = 1, .calls = {3}, .looks = {[1] = LOOKS_OF_COPY}, .joins = {[2] = true}},
   {.name = "a place taken over", .processes = 2, .deaths = 1, .calls = {1, 1}, .takes_over = true},
   {.name = "two", .processes = 2, .calls = {2, 2}},
   {.name = "a death seen twice", .processes = 3, .deaths = 1, .calls = {2}},

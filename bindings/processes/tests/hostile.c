@@ -58,11 +58,9 @@ static void be_victim(int which, uint64_t seed, int ready_fd) {
     shared_settings_t settings = settings_of(name, true);
     it = (member_t){.reap_every_ms = 1};
     if (shared_files_open(&it.files, &settings, SHARED_OPEN) != SHARED_OK) _exit(TOLD);
-    mailbox_t *mailbox = calloc(1, it.files.copies.room);
-    mailbox->memory.size = sizeof *mailbox;
-    it.replica = replica_of(&it.files, mailbox);
+    it.replica = replica_of(&it.files, new_mailbox(&it.files));
     if (member_enter(&it) != REPLICA_OK || member_leave(&it) != REPLICA_OK) _exit(TOLD);
-    free(mailbox);
+    free(it.replica.memory);
   }
   _exit(0);
 }

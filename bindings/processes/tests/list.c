@@ -89,11 +89,13 @@ static void call_often(replica_t *it, uint64_t count) {
   for (uint64_t i = 0; i < count; i++) CHECK(replica_call(it, (uint64_t[CALL_ARGUMENTS]){i}) == REPLICA_OK);
 }
 
-/* The place that has made the newest copy, of all calls. */
-static uint32_t place_of_copy(const replica_t *it) {
-  CHECK(copies_newest(&it->copies) == it->memory->progress.made + 1);
+/* The place that has made the newest copy, of so many calls. */
+static uint32_t place_of_copy(const replica_t *it, uint64_t made) {
+  CHECK(copies_newest(&it->copies) == made + 1);
   return (uint32_t)(*it->copies.newest & ((1u << COPY_BUFFER_BITS) - 1)) / COPIES_OF_PLACE;
 }
+
+static bool has_begun_copy(const replica_t *it) { return it->is_copying; }
 
 static bool has_copied(const replica_t *it) {
   const copy_head_t *heads = &it->copies.heads[it->place * COPIES_OF_PLACE];
@@ -101,44 +103,93 @@ static bool has_copied(const replica_t *it) {
 }
 
 static void idle(replica_t *it) { CHECK(replica_follow(it, UINT64_MAX, true) == REPLICA_OK); }
+static void follow(replica_t *it) { CHECK(replica_follow(it, UINT64_MAX, false) == REPLICA_OK); }
+
+enum { PROCESSES = 4, EARLY = LENGTH / 8 * 3, PIECES = (sizeof(shared_object_t) / COPY_UNIT + COPY_PIECE - 1) / COPY_PIECE };
+_Static_assert(PIECES > 1, "a copy has several pieces");
+
+static void *join_all(replica_t all[PROCESSES]) {
+  void *shared = create();
+  for (uint32_t i = 0; i < PROCESSES; i++) {
+    all[i] = object_of(shared, i);
+    CHECK(replica_join(&all[i]) == REPLICA_OK);
+  }
+  return shared;
+}
+
+/* Who joins takes the newest copy, and then has the same object as the others. */
+static void end_all(replica_t all[PROCESSES], void *shared) {
+  replica_t joins = object_of(shared, PROCESSES);
+  CHECK(replica_join(&joins) == REPLICA_OK);
+  for (uint32_t i = 0; i < PROCESSES; i++) {
+    follow(&all[i]);
+    CHECK(memcmp(all[i].memory, joins.memory, sizeof(shared_object_t)) == 0);
+    free(all[i].memory);
+  }
+  free(joins.memory);
+  munmap(shared, shared_room());
+}
 
 /* Of those that have time one makes a copy before it is due: who only follows before the others, and any other process where that one
  * doesn't end it. */
 static void one_of_many_copies(void) {
-  void *shared = create();
-  replica_t all[4];
-  for (uint32_t i = 0; i < 4; i++) {
-    all[i] = object_of(shared, i);
-    CHECK(replica_join(&all[i]) == REPLICA_OK);
-  }
+  replica_t all[PROCESSES];
+  void *shared = join_all(all);
   replica_t *calls = &all[0], *one = &all[1], *other = &all[2], *follower = &all[3];
+  const uint64_t *made = &calls->memory->progress.made;
   follower->only_follows = true;
-  call_often(calls, LENGTH / 8 * 3 - 1);
+  call_often(calls, EARLY - 1);
   idle(one), idle(other);
-  CHECK(!has_copied(one) && !has_copied(other));
+  CHECK(!has_begun_copy(one) && !has_begun_copy(other));
   call_often(calls, 1);
-  idle(one), idle(other);
-  CHECK(place_of_copy(calls) == 1 && !has_copied(other));
+  for (int i = 0; i < 1 + PIECES; i++) idle(one), idle(other);
+  CHECK(place_of_copy(calls, *made) == 1 && !has_begun_copy(one) && !has_begun_copy(other) && !has_copied(other));
   call_often(calls, LENGTH / 8);
   idle(other), idle(follower);
-  CHECK(place_of_copy(calls) == 3 && !has_copied(other));
-  call_often(calls, LENGTH / 8 * 3);
-  CHECK(copies_claim(&one->copies, calls->memory->progress.made, LENGTH / 8 * 3)); /* and it is stopped */
+  CHECK(place_of_copy(calls, *made) == 3 && !has_begun_copy(other));
+  call_often(calls, EARLY);
+  CHECK(copies_claim(&one->copies, *made, EARLY)); /* and it is stopped */
   idle(other);
-  CHECK(!has_copied(other));
-  call_often(calls, LENGTH / 8);
-  CHECK(copies_newest(&calls->copies) + LENGTH / 2 == calls->memory->progress.made + 1);
-  CHECK(replica_follow(one, UINT64_MAX, false) == REPLICA_OK);
+  CHECK(!has_begun_copy(other));
+  call_often(calls, LENGTH / 2 - EARLY);
+  CHECK(copies_newest(&calls->copies) + LENGTH / 2 == *made + 1);
+  follow(one);
   call_often(calls, 1);
-  CHECK(place_of_copy(one) == calls->place && !has_copied(other));
-  for (uint32_t i = 0; i < 4; i++) free(all[i].memory);
-  munmap(shared, shared_room());
+  CHECK(place_of_copy(one, *made - 1) == calls->place && !has_copied(other));
+  end_all(all, shared);
+}
+
+/* A copy that is made in pieces is one of the object as it was when it was begun: each look of a process that has time makes one piece, and
+ * its own call that has to have a copy makes the rest. Nobody goes on with one that another has overtaken. */
+static void copies_in_pieces(void) {
+  replica_t all[PROCESSES];
+  void *shared = join_all(all);
+  replica_t *calls = &all[0], *one = &all[1];
+  const uint64_t *made = &one->memory->progress.made;
+  call_often(calls, EARLY);
+  idle(one);
+  uint64_t begun = *made;
+  CHECK(has_begun_copy(one) && one->making.done == 0);
+  for (int piece = 1; piece < PIECES; piece++) {
+    call_often(calls, 1), idle(one);
+    CHECK(one->making.done == (size_t)piece * COPY_PIECE && copies_newest(&one->copies) == 1);
+  }
+  call_often(one, LENGTH / 2 - (*made - begun));
+  CHECK(place_of_copy(one, begun) == 1 && !has_begun_copy(one));
+  call_often(calls, EARLY), follow(one);
+  idle(one), idle(one);
+  CHECK(has_begun_copy(one) && one->making.done == COPY_PIECE);
+  call_often(calls, LENGTH / 2 - EARLY + 1);
+  idle(one);
+  CHECK(!has_begun_copy(one) && one->making.done == COPY_PIECE && place_of_copy(one, copies_newest(&one->copies) - 1) == calls->place);
+  end_all(all, shared);
 }
 
 int main(void) {
   processes_at_once();
   killed_processes();
   one_of_many_copies();
+  copies_in_pieces();
   puts("the list: all processes have the same object");
   return 0;
 }

@@ -95,18 +95,24 @@ static shared_settings_t settings_of(const char *name, bool writes_payloads) {
 /* Gives back what processes had that died. */
 static inline void reap(member_t *it) { CHECK(member_reap(it, NULL) == REPLICA_OK); }
 
+/* A mailbox, and behind it room for what it was as a copy was begun. */
+static mailbox_t *new_mailbox(const shared_files_t *files) {
+  mailbox_t *it = calloc(2, files->copies.room);
+  CHECK(it != NULL);
+  it->memory.size = sizeof *it;
+  return it;
+}
+
 static replica_t replica_of(const shared_files_t *files, mailbox_t *mailbox) {
-  return (replica_t){.list = files->list, .copies = files->copies, .apply = apply, .memory = &mailbox->memory, .place = files->places.own, .loads = LOADS};
+  return (replica_t){.list = files->list, .copies = files->copies, .apply = apply, .memory = &mailbox->memory, .place = files->places.own, .loads = LOADS,
+    .snapshot = (char *)mailbox + files->copies.room};
 }
 
 static shared_status_t join_with(member_t *it, const shared_settings_t *settings, shared_mode_t mode) {
   *it = (member_t){.reap_every_ms = REAP_EVERY_MS};
   shared_status_t status = shared_files_open(&it->files, settings, mode);
   if (status != SHARED_OK) return status;
-  mailbox_t *mailbox = calloc(1, it->files.copies.room);
-  CHECK(mailbox != NULL);
-  mailbox->memory.size = sizeof *mailbox;
-  it->replica = replica_of(&it->files, mailbox);
+  it->replica = replica_of(&it->files, new_mailbox(&it->files));
   CHECK(member_enter(it) == REPLICA_OK);
   return SHARED_OK;
 }

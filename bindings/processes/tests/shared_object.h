@@ -42,14 +42,15 @@ static void *shared_memory(size_t size) {
 static size_t list_room(void) { return (call_list_size(PLACES, LENGTH) + 63) / 64 * 64; }
 static size_t shared_room(void) { return list_room() + copies_size(PLACES, sizeof(shared_object_t)); }
 
-/* The object of the process in a place. */
+/* The object of the process in a place, and behind it the room for what it was as a copy was begun. */
 static replica_t object_of(void *shared, uint32_t place) {
-  shared_object_t *object = calloc(1, (sizeof *object + 63) / 64 * 64);
+  size_t room = (sizeof(shared_object_t) + 63) / 64 * 64;
+  shared_object_t *object = calloc(2, room);
   CHECK(object != NULL);
   object->memory.size = sizeof *object;
   return (replica_t){
     .list = call_list_at(shared, PLACES, LENGTH), .copies = copies_at((char *)shared + list_room(), PLACES, sizeof *object), .apply = object_apply,
-    .memory = &object->memory, .place = place, .loads = LOADS
+    .memory = &object->memory, .place = place, .loads = LOADS, .snapshot = (char *)object + room
   };
 }
 

@@ -36,6 +36,12 @@ static void make_calls(member_t *it) {
   }
 }
 
+/* So that whoever has time makes a copy, in pieces. */
+static void call_until_copy(member_t *it) {
+  const replica_t *replica = &it->replica;
+  while (replica->memory->progress.made + 1 < copies_newest(&replica->copies) + LENGTH / 8 * 3) call(it, RELEASE, NOTHING);
+}
+
 static void live(void) {
   member_t it;
   CHECK(join_mailbox(&it, name, SHARED_OPEN_OR_CREATE, true) == SHARED_OK);
@@ -43,7 +49,8 @@ static void live(void) {
     uint64_t slot = call(&it, LEND, 0);
     if (slot != NOTHING) call(&it, SEND, slot);
     slot = call(&it, RECEIVE, 0);
-    CHECK(replica_follow(&it.replica, LENGTH, true) == REPLICA_OK);
+    do CHECK(replica_follow(&it.replica, LENGTH, true) == REPLICA_OK);
+    while (it.replica.is_copying);
     if (slot != NOTHING) call(&it, RELEASE, slot);
   }
   leave_mailbox(&it);
@@ -117,6 +124,7 @@ static uint64_t kill_members(uint64_t stride, bool with_calls, bool one_is_dead)
   bool goes_on = true;
   for (uint64_t access = 1; goes_on; access += stride, count++) {
     if (one_is_dead) leave_a_dead_process();
+    call_until_copy(&it);
     if ((goes_on = start(access, &child))) {
       if (with_calls) make_calls(&it);
       end(child);
