@@ -19,50 +19,22 @@ pub fn set_state(
 ) -> u32
     ensures { SetStateReturns numbers.now channel state service.old service.new were_closed.old were_closed.new result }
 {
-    if service.recording.is_on() {
-        return set_state_recorded(service, numbers, channel, state, were_closed);
-    }
-    set_state_unrecorded(service, numbers, channel, state, were_closed)
-}
-
-// The same, and it is recorded.
-#[cold]
-#[inline(never)]
-fn set_state_recorded(
-    service: &mut Service,
-    numbers: &SubscriberNumbers,
-    channel: usize,
-    state: u64,
-    were_closed: &mut u32,
-) -> u32
-    ensures { SetStateReturns numbers.now channel state service.old service.new were_closed.old were_closed.new result }
-{
-    let code = set_state_unrecorded(service, numbers, channel, state, were_closed);
     let call = SubscriberChannelCall::SetState { state };
-    service
-        .recording
-        .subscriber_channel(numbers, channel, call, code, *were_closed);
-    code
-}
-
-// The same, and it isn't. It is inlined in neither: what it calls is then called in one place, and inlined.
-#[inline(never)]
-fn set_state_unrecorded(
-    service: &mut Service,
-    numbers: &SubscriberNumbers,
-    channel: usize,
-    state: u64,
-    were_closed: &mut u32,
-) -> u32
-    ensures { SetStateReturns numbers.now channel state service.old service.new were_closed.old were_closed.new result }
-{
     let subscriber = match subscriber_with_channel(&service.domain, numbers, channel) {
         Ok(subscriber) => subscriber,
-        Err(code) => return code,
+        Err(code) => {
+            service
+                .recording
+                .asked_or_set(numbers, channel, call, code, 0);
+            return code;
+        }
     };
     let answer = subscriber.set_channel_state(&mut service.domain, channel, state);
     subscriber.disown();
     *were_closed = number_of(answer);
+    service
+        .recording
+        .asked_or_set(numbers, channel, call, OK, *were_closed);
     OK
 }
 
@@ -181,8 +153,8 @@ fn close_sent_recorded(
     code
 }
 
-// The same, and it isn't. It is inlined in neither: what it calls is then called in one place, and inlined.
-#[inline(never)]
+// The same, and it isn't.
+#[inline(always)]
 fn close_sent_unrecorded(
     service: &mut Service,
     numbers: &PublisherNumbers,

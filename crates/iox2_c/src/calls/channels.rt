@@ -89,50 +89,22 @@ pub fn some_has_state(
 ) -> u32
     ensures { SomeStateReturns numbers.now channel state service.old service.new out.old out.new result }
 {
-    if service.recording.is_on() {
-        return some_has_state_recorded(service, numbers, channel, state, out);
-    }
-    some_has_state_unrecorded(service, numbers, channel, state, out)
-}
-
-// The same, and it is recorded.
-#[cold]
-#[inline(never)]
-fn some_has_state_recorded(
-    service: &mut Service,
-    numbers: &SubscriberNumbers,
-    channel: usize,
-    state: u64,
-    out: &mut u32,
-) -> u32
-    ensures { SomeStateReturns numbers.now channel state service.old service.new out.old out.new result }
-{
-    let code = some_has_state_unrecorded(service, numbers, channel, state, out);
     let call = SubscriberChannelCall::SomeHasState { state };
-    service
-        .recording
-        .subscriber_channel(numbers, channel, call, code, *out);
-    code
-}
-
-// The same, and it isn't. It is inlined in neither: what it calls is then called in one place, and inlined.
-#[inline(never)]
-fn some_has_state_unrecorded(
-    service: &mut Service,
-    numbers: &SubscriberNumbers,
-    channel: usize,
-    state: u64,
-    out: &mut u32,
-) -> u32
-    ensures { SomeStateReturns numbers.now channel state service.old service.new out.old out.new result }
-{
     let subscriber = match subscriber_with_channel(&service.domain, numbers, channel) {
         Ok(subscriber) => subscriber,
-        Err(code) => return code,
+        Err(code) => {
+            service
+                .recording
+                .asked_or_set(numbers, channel, call, code, 0);
+            return code;
+        }
     };
     let is_so = subscriber.at_least_one_channel_has_state(&service.domain, channel, state);
     subscriber.disown();
     *out = number_of(is_so);
+    service
+        .recording
+        .asked_or_set(numbers, channel, call, OK, *out);
     OK
 }
 
@@ -229,8 +201,8 @@ fn has_state_recorded(
     code
 }
 
-// The same, and it isn't. It is inlined in neither: what it calls is then called in one place, and inlined.
-#[inline(never)]
+// The same, and it isn't.
+#[inline(always)]
 fn has_state_unrecorded(
     service: &mut Service,
     numbers: &PublisherNumbers,
@@ -289,8 +261,8 @@ fn has_hint_recorded(
     code
 }
 
-// The same, and it isn't. It is inlined in neither: what it calls is then called in one place, and inlined.
-#[inline(never)]
+// The same, and it isn't.
+#[inline(always)]
 fn has_hint_unrecorded(
     service: &mut Service,
     numbers: &PublisherNumbers,

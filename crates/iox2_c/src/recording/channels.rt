@@ -52,8 +52,26 @@ impl Recording {
         self.keep(publisher.name(), code, command, reply);
     }
 
+    /// The same of a subscriber, if anything is recorded: a call of which there is one copy for both, since
+    /// the compiler inlines what it calls only there.
+    #[inline(always)]
+    pub fn asked_or_set(
+        &mut self,
+        subscriber: &SubscriberNumbers,
+        channel: usize,
+        call: SubscriberChannelCall,
+        code: u32,
+        answer: u32,
+    ) {
+        if self.is_on() {
+            self.subscriber_channel(subscriber, channel, call, code, answer);
+        }
+    }
+
     /// A subscriber asked about a channel of its connections or changed it, or didn't, as the code says. The
     /// answer is a question's, or whether all were closed that were set: 1 for yes.
+    #[cold]
+    #[inline(never)]
     pub fn subscriber_channel(
         &mut self,
         subscriber: &SubscriberNumbers,

@@ -5,7 +5,7 @@ use Rattle.iox2_c.specs.Numbers.{wide}
 use Rattle.iox2_c.specs.Serving.{Serving}
 use Rattle.iox2_c.specs.Steps.{StepsTo}
 use Rattle.iox2_c.proofs.BecomesSteps.{moved}
-use Rattle.iox2_c.proofs.calls.channel_changes.set_state_unrecorded.Goals as goal
+use Rattle.iox2_c.proofs.calls.channel_changes.set_state.Goals as goal
 
 pub returns : goal.returns
 returns c = record {

@@ -4,7 +4,7 @@ use Rattle.iox2_pubsub.specs.declared.subscriber.Subscriber.{Subscriber}
 use Rattle.iox2_c.specs.Numbers.{wide}
 use Rattle.iox2_c.specs.Serving.{Serving}
 use Rattle.iox2_c.proofs.ChannelSteps.{told-number}
-use Rattle.iox2_c.proofs.calls.channels.some_has_state_unrecorded.Goals as goal
+use Rattle.iox2_c.proofs.calls.channels.some_has_state.Goals as goal
 
 pub returns : goal.returns
 returns c = record {
