@@ -50,6 +50,19 @@ static bool is_other_than(call_own_t announced, uint32_t place, const uint64_t a
   return differences != 0;
 }
 
+uint64_t call_list_leave_out(const call_list_t *list, call_progress_t *progress, uint32_t own, uint64_t most) {
+  uint64_t count = 0;
+  for (; count < most; count++) {
+    /* Relaxed: nothing is read that its process wrote. The step behind them looks again. */
+    uint64_t name = atomic_load_explicit(call_order(list, progress->made), memory_order_relaxed);
+    uint32_t place = (uint32_t)(name >> CALL_ENTRY_BITS) & ((1u << CALL_PLACE_BITS) - 1);
+    if ((name & CALL_NAMED_FOR_FEW) == 0 || call_distance(name, progress->made) != 0 || place == own || place >= list->places) break;
+    if ((name & ((1u << CALL_ENTRY_BITS) - 1)) != call_index(list, progress->of[place].entries)) break;
+    call_list_begin(progress, &progress->of[place]);
+  }
+  return count;
+}
+
 call_step_t call_list_step(const call_list_t *list, call_progress_t *progress, call_apply_t *apply, void *object, call_own_t announced) {
   _Atomic uint64_t *order = call_order(list, progress->made);
   /* Acquire: the entry that is named is seen whole, and all that its process wrote before it called. Relaxed, another list is made.
@@ -59,6 +72,10 @@ call_step_t call_list_step(const call_list_t *list, call_progress_t *progress, c
   if (ahead != 0) return ahead > 0 ? CALL_NONE : CALL_BEHIND;
   uint32_t place = (uint32_t)(name >> CALL_ENTRY_BITS) & ((1u << CALL_PLACE_BITS) - 1);
   if (place >= list->places || (name & ((1u << CALL_ENTRY_BITS) - 1)) != call_index(list, progress->of[place].entries)) return CALL_DAMAGED;
+  if (announced.leaves_out && (name & CALL_NAMED_FOR_FEW) != 0 && place != announced.place) {
+    call_list_begin(progress, &progress->of[place]);
+    return CALL_LEFT_OUT;
+  }
   const call_entry_t *entry = call_entry(list, place, progress->of[place].entries);
   uint64_t arguments[CALL_ARGUMENTS];
   for (int i = 0; i < CALL_ARGUMENTS; i++) arguments[i] = atomic_load_explicit(&entry->words[i], memory_order_relaxed);
@@ -66,7 +83,8 @@ call_step_t call_list_step(const call_list_t *list, call_progress_t *progress, c
   /* Acquire: if a word that was read is newer, the second look sees that `order` has gone on. Without it objects diverge. */
   atomic_thread_fence(memory_order_acquire);
   if (atomic_load_explicit(order, memory_order_relaxed) != name) return CALL_BEHIND;
-  if (own >> 1 != progress->of[place].reply) return CALL_DIVERGED;
+  if (own >> 1 != progress->of[place].reply && !announced.leaves_out) return CALL_DIVERGED;
+  if ((name & CALL_NAMED_FOR_FEW) != call_named_for_few((arguments[0] & CALL_FOR_FEW) != 0)) return CALL_DAMAGED;
   if (is_other_than(announced, place, arguments, own)) return CALL_DAMAGED;
   call_list_begin(progress, &progress->of[place]);
   uint32_t ended = own & CALL_IS_END ? note_end(list, progress, arguments[0]) : CALL_PLACES;

@@ -15,7 +15,10 @@
  * Why a place can be given on: a process has at most one entry that is announced and not yet in the list. Its end is a call
  * of the list, too, which skips this entry, and gives back in one step all that the process had. The next process in the place
  * begins behind it. One that takes a dead process' place over, since it finds no other, has its entries: it adds what was announced,
- * and then says that end itself. */
+ * and then says that end itself.
+ *
+ * A process may leave out calls of others: those that their first argument says are for few. The word of `order` says it, too, so that
+ * such an entry needn't be read. */
 #ifndef IOX2PS_CALL_LIST_H
 #define IOX2PS_CALL_LIST_H
 
@@ -32,6 +35,9 @@
 #endif
 /* What each message takes, compiled into its caller. */
 #define ALWAYS_INLINE __attribute__((always_inline)) static inline
+
+/* The top bit of a call's first argument: it is for few. */
+#define CALL_FOR_FEW (UINT64_C(1) << 63)
 
 /* The last word of an entry is the list's own. */
 enum { CALL_ARGUMENTS = CALL_WORDS - 1, CALL_LENGTH_MAX = 8192 };
@@ -83,10 +89,12 @@ typedef struct call_end_t {
 typedef struct call_own_t {
   uint32_t place;
   const uint64_t *arguments;
+  bool leaves_out; /* calls of others that are for few aren't made, and what others were replied isn't compared */
 } call_own_t;
 
 typedef enum call_step_t {
   CALL_MADE,
+  CALL_LEFT_OUT,
   CALL_NONE,    /* the list has no further call */
   CALL_BEHIND,  /* the next call was overwritten: a copy of the object that is further is needed */
   CALL_DAMAGED, /* the list names what nobody can have put there, or another call than this process announced */
@@ -105,7 +113,10 @@ void call_list_announce_end(const call_list_t *list, call_progress_t *progress, 
 bool call_list_is_announced(const call_list_t *list, const call_progress_t *progress, uint32_t place);
 /* Whether there is a call behind so many. It needs no progress, so that it may be asked while a call is made. */
 bool call_list_has_more(const call_list_t *list, uint64_t calls);
-/* Makes the next call of the list. */
+/* Leaves out those of the next calls, at most so many, that stand one behind the other, are for few, and are others' than this place's.
+ * Returns how many. */
+uint64_t call_list_leave_out(const call_list_t *list, call_progress_t *progress, uint32_t place, uint64_t most);
+/* Makes the next call of the list, or leaves it out. */
 call_step_t call_list_step(const call_list_t *list, call_progress_t *progress, call_apply_t *apply, void *object, call_own_t own);
 
 /* ---- what each call takes
@@ -113,8 +124,9 @@ call_step_t call_list_step(const call_list_t *list, call_progress_t *progress, c
  * Comments say why each order is as strong as it is, and what the model finds where it is weaker. Those in places.c are beyond the
  * model: there the system's locks order all that counts. */
 
-/* A word of `order`: the number of the call and 1 (so that 0 is none), the place, and which of its entries. */
-enum { CALL_ENTRY_BITS = 14, CALL_PLACE_BITS = 6, CALL_NUMBER_BITS = 64 - CALL_ENTRY_BITS - CALL_PLACE_BITS };
+/* A word of `order`: the number of the call and 1 (so that 0 is none), whether it is for few, the place, and which of its entries. */
+enum { CALL_ENTRY_BITS = 14, CALL_PLACE_BITS = 6, CALL_NAME_BITS = CALL_ENTRY_BITS + CALL_PLACE_BITS + 1, CALL_NUMBER_BITS = 64 - CALL_NAME_BITS };
+#define CALL_NAMED_FOR_FEW (UINT64_C(1) << (CALL_NAME_BITS - 1))
 _Static_assert(2 * CALL_LENGTH_MAX <= 1 << CALL_ENTRY_BITS && CALL_PLACES <= 1 << CALL_PLACE_BITS, "a word of `order` has room");
 #define CALL_NUMBER_MASK ((UINT64_C(1) << CALL_NUMBER_BITS) - 1)
 
@@ -122,13 +134,14 @@ _Static_assert(2 * CALL_LENGTH_MAX <= 1 << CALL_ENTRY_BITS && CALL_PLACES <= 1 <
 enum { CALL_IS_END = 1 };
 
 static inline uint64_t call_name(uint64_t call, uint32_t place, uint64_t entry) {
-  return ((call + 1) & CALL_NUMBER_MASK) << (CALL_ENTRY_BITS + CALL_PLACE_BITS) | (uint64_t)place << CALL_ENTRY_BITS | entry;
+  return ((call + 1) & CALL_NUMBER_MASK) << CALL_NAME_BITS | (uint64_t)place << CALL_ENTRY_BITS | entry;
 }
+static inline uint64_t call_named_for_few(bool is_for_few) { return is_for_few ? CALL_NAMED_FOR_FEW : 0; }
 
 /* Calls from that which a word of `order` names to the given one: 0 if it is that one, negative if a later one is there. The
- * numbers of calls begin anew after 2^44 of them. */
+ * numbers of calls begin anew after 2^43 of them. */
 static inline int64_t call_distance(uint64_t name, uint64_t call) {
-  uint64_t difference = (call + 1 - (name >> (CALL_ENTRY_BITS + CALL_PLACE_BITS))) << (64 - CALL_NUMBER_BITS);
+  uint64_t difference = (call + 1 - (name >> CALL_NAME_BITS)) << (64 - CALL_NUMBER_BITS);
   return (int64_t)difference >> (64 - CALL_NUMBER_BITS);
 }
 
@@ -165,17 +178,23 @@ ALWAYS_INLINE void call_list_write(const call_list_t *list, const call_seat_t *s
 }
 
 /* Adds call number `call`: this entry of a place. False if another did. */
-ALWAYS_INLINE bool call_list_put(const call_list_t *list, _Atomic uint64_t *order, uint64_t before, uint64_t call, uint32_t place, uint64_t entry) {
-  uint64_t name = call_name(call, place, call_index(list, entry));
+ALWAYS_INLINE bool call_list_put(const call_list_t *list, _Atomic uint64_t *order, uint64_t before, uint64_t call, uint32_t place, uint64_t entry, bool is_for_few) {
+  uint64_t name = call_name(call, place, call_index(list, entry)) | call_named_for_few(is_for_few);
   /* Release: whoever finds the entry named sees the whole entry, and all that its process wrote before. Relaxed, another list is
    * made. Sequentially consistent for sleepers and those who wake them (sleepers.c), since a process doesn't look again at its own
    * call. Relaxed where it fails: the next step looks at the word again. */
   return atomic_compare_exchange_strong_explicit(order, &before, name, memory_order_seq_cst, memory_order_relaxed);
 }
 
+/* Of an entry that is announced. */
+static inline bool call_list_is_for_few(const call_list_t *list, uint32_t place, uint64_t entry) {
+  /* Relaxed: whoever asks has seen the announcement, or has the place. */
+  return (atomic_load_explicit(&call_entry(list, place, entry)->words[0], memory_order_relaxed) & CALL_FOR_FEW) != 0;
+}
+
 /* Tries to add call number `call`, when all before it are made: that which place `call` % places has announced, or else that of the own
  * place. True if it was the own, which so is next, and is as it was announced. Otherwise the next step says whether one is there. */
-ALWAYS_INLINE bool call_list_try(const call_list_t *list, const call_progress_t *progress, uint32_t place, uint64_t call, uint64_t count) {
+ALWAYS_INLINE bool call_list_try(const call_list_t *list, const call_progress_t *progress, uint32_t place, uint64_t call, uint64_t count, bool is_for_few) {
   _Atomic uint64_t *order = call_order(list, call);
   /* Relaxed: only compared. What the call before did, this process has seen as it made that call. */
   uint64_t before = atomic_load_explicit(order, memory_order_relaxed);
@@ -184,13 +203,14 @@ ALWAYS_INLINE bool call_list_try(const call_list_t *list, const call_progress_t 
   /* Acquire: the entry is published on as this process names it. Relaxed, others read words that are not those of the entry. */
   uint64_t announced = atomic_load_explicit(&list->announcements[turn].count, memory_order_acquire);
   bool is_its_turn = announced == progress->of[turn].entries + 1;
-  if (is_its_turn && turn != place) return (void)call_list_put(list, order, before, call, turn, announced - 1), false;
-  return call_list_put(list, order, before, call, place, count);
+  if (is_its_turn && turn != place) return (void)call_list_put(list, order, before, call, turn, announced - 1, call_list_is_for_few(list, turn, announced - 1)), false;
+  return call_list_put(list, order, before, call, place, count, is_for_few);
 }
 
 /* The same behind all calls that this process has made. */
 ALWAYS_INLINE bool call_list_add(const call_list_t *list, const call_progress_t *progress, uint32_t place) {
-  return call_list_try(list, progress, place, progress->made, progress->of[place].entries);
+  uint64_t entry = progress->of[place].entries;
+  return call_list_try(list, progress, place, progress->made, entry, call_list_is_for_few(list, place, entry));
 }
 
 /* A call of the place is next and says no end: before it is made, and with its reply. */

@@ -6,11 +6,13 @@
 #include "shared_names.h"
 #include <string.h>
 
-/* Puts the domain in place that the proved function is to be asked of; `answered` comes behind it. */
-static iox2ps_status_t ask(iox2ps_domain_t **domain) {
+/* Puts the domain in place that the proved function is to be asked of; `answered` comes behind it. `of_all`: where the answer depends on
+ * what others' subscribers did, which this process may have left out. */
+static iox2ps_status_t ask(iox2ps_domain_t **domain, bool of_all) {
   shared_domain_t *shared = shared_domain_of(*domain);
   if (shared == NULL) return IOX2PS_OK;
-  iox2ps_status_t code = shared_domain_follow(shared);
+  iox2ps_status_t code = of_all ? shared_domain_become_whole(shared) : IOX2PS_OK;
+  if (code == IOX2PS_OK) code = shared_domain_follow(shared);
   if (code == IOX2PS_OK) *domain = domain_memory_ask(shared->memory);
   return code;
 }
@@ -20,12 +22,14 @@ static iox2ps_status_t answered(iox2ps_status_t code) {
   return code;
 }
 
-#define ASK(domain, ...)                  \
-  iox2ps_status_t refused = ask(&domain); \
+#define ASK_OF(domain, of_all, ...)               \
+  iox2ps_status_t refused = ask(&domain, of_all); \
   return refused != IOX2PS_OK ? refused : answered(__VA_ARGS__)
+#define ASK(domain, ...) ASK_OF(domain, true, __VA_ARGS__)
+#define ASK_OWN(domain, ...) ASK_OF(domain, false, __VA_ARGS__)
 
 iox2ps_status_t iox2ps_domain_config_sized(iox2ps_domain_t *domain, iox2ps_config_t *config, size_t struct_size) {
-  ASK(domain, iox2ps_proved_domain_config_sized(domain, config, struct_size));
+  ASK_OWN(domain, iox2ps_proved_domain_config_sized(domain, config, struct_size));
 }
 
 iox2ps_status_t iox2ps_domain_connection_count(iox2ps_domain_t *domain, size_t *count) { ASK(domain, iox2ps_proved_domain_connection_count(domain, count)); }
@@ -50,7 +54,7 @@ iox2ps_status_t iox2ps_blocked_subscriber(iox2ps_domain_t *domain, const iox2ps_
 }
 
 static iox2ps_status_t ask_header(iox2ps_domain_t *domain, const iox2ps_sample_t *sample, iox2ps_header_t *header) {
-  ASK(domain, iox2ps_proved_sample_header(domain, sample, header));
+  ASK_OWN(domain, iox2ps_proved_sample_header(domain, sample, header));
 }
 
 /* ---- channels */
@@ -85,13 +89,13 @@ iox2ps_status_t iox2ps_loan_payload(iox2ps_domain_t *domain, const iox2ps_loan_t
 }
 
 static iox2ps_status_t ask_sample(iox2ps_domain_t *domain, const iox2ps_sample_t *sample, const void **payload, size_t *len) {
-  ASK(domain, iox2ps_proved_sample_payload(domain, sample, payload, len));
+  ASK_OWN(domain, iox2ps_proved_sample_payload(domain, sample, payload, len));
 }
 
 iox2ps_status_t iox2ps_sample_payload(iox2ps_domain_t *domain, const iox2ps_sample_t *sample, const void **payload, size_t *len) {
   const shared_domain_t *shared = shared_domain_of(domain);
   iox2ps_status_t code = ask_sample(domain, sample, payload, len);
-  if (code == IOX2PS_OK && shared != NULL) *payload = shared_domain_payload(shared, *payload);
+  if (code == IOX2PS_OK && shared != NULL) *payload = shared_domain_payload(shared, left_out_payload(shared->memory->group, (char *)(uintptr_t)*payload));
   return code;
 }
 
@@ -123,7 +127,8 @@ iox2ps_status_t iox2ps_sample_copy(iox2ps_domain_t *domain, const iox2ps_sample_
 iox2ps_status_t iox2ps_domain_recording(iox2ps_domain_t *domain, void *bytes, size_t room, size_t *len, uint64_t *missed) {
   shared_domain_t *shared = shared_domain_of(domain);
   if (shared == NULL) return iox2ps_proved_domain_recording(domain, bytes, room, len, missed);
-  iox2ps_status_t code = shared_domain_follow(shared);
+  iox2ps_status_t code = shared_domain_become_whole(shared);
+  if (code == IOX2PS_OK) code = shared_domain_follow(shared);
   return code != IOX2PS_OK ? code : iox2ps_proved_domain_recording(&shared->memory->domain, bytes, room, len, missed);
 }
 

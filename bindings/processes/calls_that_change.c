@@ -77,6 +77,7 @@ APART iox2ps_status_t lend(shared_domain_t *shared, const iox2ps_publisher_t *pu
   }
   const domain_reply_t *reply = shared_domain_reply(shared);
   loan_of_words(reply->handle, shared->service_id, loan), *payload = shared_domain_payload(shared, reply->payload);
+  shared->lent.number = loan->number.low, shared->lent.payload = reply->payload;
   return code;
 }
 
@@ -95,6 +96,8 @@ iox2ps_status_t iox2ps_publisher_loan(iox2ps_domain_t *domain, const iox2ps_publ
 APART iox2ps_status_t send(shared_domain_t *shared, const iox2ps_loan_t *loan, size_t *receivers, iox2ps_blocked_t *blocked) {
   uint64_t arguments[CALL_ARGUMENTS];
   if (!words_of_loan(loan, shared->service_id, arguments + 1)) return shared_domain_not_live(shared);
+  bool is_last = loan->number.low == shared->lent.number;
+  arguments[1 + LOAN_PLACE_WORD] = is_last ? (uintptr_t)shared->lent.payload : shared_domain_place_of_loan(shared, arguments + 1);
   iox2ps_status_t code = shared_domain_message(shared, LOAN_SEND, loan, arguments);
   if (code != IOX2PS_OK || !live_handles_has(&shared->memory->handles, HANDLE_PUBLISHER, shared->group->member.replica.place)) shared_domain_wrote(shared);
   if (code == IOX2PS_OK) *receivers = shared_domain_reply(shared)->count;
@@ -190,6 +193,7 @@ iox2ps_status_t iox2ps_subscriber_update_connections(iox2ps_domain_t *domain, co
 static iox2ps_status_t look_again(shared_domain_t *shared, const uint64_t *words) {
   iox2ps_status_t code = shared_domain_follow(shared);
   if (code != IOX2PS_OK || !shared_domain_is_empty(shared, words)) return code;
+  shared_group_leave_out_in_time(shared->group);
   code = shared_domain_idle(shared);
   return code == IOX2PS_OK ? IOX2PS_NO_SAMPLE : code;
 }

@@ -35,6 +35,21 @@ iox2ps_status_t domain_refuse(iox2ps_domain_t *domain, iox2ps_wide_t id, const u
   return IOX2PS_NOT_LIVE;
 }
 
+/* Whether it never waits, fails at a full buffer, or runs out of slots: so says the law of isolation of a publisher. */
+static bool is_independent(iox2ps_domain_t *domain, const iox2ps_publisher_options_t *asked) {
+  iox2ps_config_t config;
+  iox2ps_publisher_options_t usual;
+  size_t slots;
+  if (iox2ps_proved_domain_config_sized(domain, &config, sizeof config) != IOX2PS_OK) return false;
+  iox2ps_publisher_options_of(&config, &usual);
+  const iox2ps_publisher_options_t *is = asked != NULL ? asked : &usual;
+  bool has_slots = is->preallocated_samples == 0
+                   || (iox2ps_worst_case_slots(&config, is->max_loaned_samples, &slots) == IOX2PS_OK && is->preallocated_samples >= slots);
+  bool asks_strategy = is->backpressure_handler == IOX2PS_BACKPRESSURE_NONE || is->backpressure_handler == IOX2PS_BACKPRESSURE_FOLLOW_STRATEGY;
+  bool discards = asks_strategy ? is->backpressure_strategy == IOX2PS_DISCARD_DATA : is->backpressure_handler == IOX2PS_BACKPRESSURE_DISCARD_DATA;
+  return is->allocation_strategy == IOX2PS_ALLOCATION_STATIC && has_slots && (config.enable_safe_overflow != 0 || discards);
+}
+
 static iox2ps_status_t made_publisher(iox2ps_status_t code, const iox2ps_publisher_t *made, iox2ps_wide_t id, const uint64_t *words, domain_reply_t *reply) {
   if (code == IOX2PS_OK) (void)words_of_publisher(made, id, reply->handle), reply->handle[NODE_WORD] = words[NODE_WORD];
   return code;
@@ -42,7 +57,9 @@ static iox2ps_status_t made_publisher(iox2ps_status_t code, const iox2ps_publish
 
 iox2ps_status_t domain_make_publisher(iox2ps_domain_t *domain, iox2ps_wide_t id, const uint64_t *words, domain_reply_t *reply) {
   iox2ps_publisher_t made;
-  return made_publisher(iox2ps_proved_publisher_create(domain, &made), &made, id, words, reply);
+  iox2ps_status_t code = made_publisher(iox2ps_proved_publisher_create(domain, &made), &made, id, words, reply);
+  if (code == IOX2PS_OK) reply->handle[DEPENDENT_WORD] = !is_independent(domain, NULL);
+  return code;
 }
 
 iox2ps_status_t domain_make_publisher_with(iox2ps_domain_t *domain, iox2ps_wide_t id, const uint64_t *words, domain_reply_t *reply) {
@@ -52,7 +69,9 @@ iox2ps_status_t domain_make_publisher_with(iox2ps_domain_t *domain, iox2ps_wide_
     .backpressure_strategy = (uint32_t)words[3], .backpressure_handler = (uint32_t)(words[3] >> 32),
     .degradation = (uint32_t)words[4], .allocation_strategy = (uint32_t)(words[4] >> 32)
   };
-  return made_publisher(iox2ps_proved_publisher_create_with(domain, &options, &made), &made, id, words, reply);
+  iox2ps_status_t code = made_publisher(iox2ps_proved_publisher_create_with(domain, &options, &made), &made, id, words, reply);
+  if (code == IOX2PS_OK) reply->handle[DEPENDENT_WORD] = !is_independent(domain, &options);
+  return code;
 }
 
 iox2ps_status_t domain_close_publisher(iox2ps_domain_t *domain, iox2ps_wide_t id, const uint64_t *words, domain_reply_t *reply) {

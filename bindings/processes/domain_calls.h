@@ -37,8 +37,11 @@ typedef enum domain_operation_t {
 
 enum {
   LENGTH_WORD = 4,
+  DEPENDENT_WORD = 4, /* of a publisher's handle: 1 where it may wait, fail or run out of slots */
+  LOAN_PLACE_WORD = 5, /* of a loan's handle in the list of handles, and of LOAN_SEND: where the domain believes its bytes to be; 0 without any */
   NODE_WORD = 5,    /* which process makes a port; also in the handle that it made */
-  BOOK_OF_LOAN = 3, BOOK_OF_SAMPLE = 4, SAMPLE_PUBLISHER = 0,
+  BOOK_OF_LOAN = 3, BOOK_OF_SAMPLE = 4, SAMPLE_PUBLISHER = 0, SAMPLE_SUBSCRIBER,
+  SAMPLE_NUMBERS = 3, /* its publisher's, its subscriber's and its own come first */
   SUBSCRIBER_CHANNEL = 3, SUBSCRIBER_STATE, /* behind a subscriber's */
   /* The first in the place of a length that no call on channels asks for. */
   PUBLISHER_CHANNEL = 2, PUBLISHER_CONNECTION = 4, PUBLISHER_STATE,

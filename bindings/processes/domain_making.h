@@ -42,23 +42,32 @@ ALWAYS_INLINE bool domain_has_handle(const domain_traits_t *traits, iox2ps_statu
 ALWAYS_INLINE void domain_memory_note_handles(domain_memory_t *it, uint32_t place, const domain_traits_t *traits, iox2ps_status_t code, const uint64_t *words,
                                               const domain_reply_t *reply) {
   if (traits->ends != HANDLE_KINDS && domain_has_ended(traits, code)) live_handles_remove(&it->handles, traits->ends, words);
-  if (domain_has_handle(traits, code)) live_handles_add(&it->handles, code == IOX2PS_OK ? traits->makes : HANDLE_BLOCKED, place, reply->handle);
-  if (code == IOX2PS_OK && traits->makes == HANDLE_LOAN) book_owners_note(&it->owners, &it->handles, words, reply->handle[BOOK_OF_LOAN]);
+  if (!domain_has_handle(traits, code)) return;
+  live_handle_t *handle = live_handles_add(&it->handles, code == IOX2PS_OK ? traits->makes : HANDLE_BLOCKED, place, reply->handle);
+  if (code != IOX2PS_OK || traits->makes != HANDLE_LOAN) return;
+  handle->words[LOAN_PLACE_WORD] = (uintptr_t)reply->payload;
+  book_owners_note(&it->owners, &it->handles, words, reply->handle[BOOK_OF_LOAN]);
 }
 
-/* What tells replies apart, as far as another domain could give them: where a payload lies is among that. */
-ALWAYS_INLINE uint64_t domain_mark(bool has_handle, iox2ps_status_t code, const domain_reply_t *reply) {
+/* How many words of the handle in a reply tell it apart. */
+ALWAYS_INLINE int domain_marked_words(const domain_traits_t *traits, iox2ps_status_t code) {
+  return !domain_has_handle(traits, code) ? 0 : traits->makes == HANDLE_SAMPLE ? SAMPLE_NUMBERS : HANDLE_WORDS;
+}
+
+/* What tells replies apart, as far as another domain could give them: where a payload lies is among that, and of a sample its numbers, but
+ * not where it is looked for first, which isn't the same where calls are left out. */
+ALWAYS_INLINE uint64_t domain_mark(int words, iox2ps_status_t code, const domain_reply_t *reply) {
   uint64_t mark = code + reply->count * UINT64_C(0x9e3779b97f4a7c15) + (uintptr_t)reply->payload;
-  if (!has_handle) return mark ^ mark >> 32;
+  if (words == 0) return mark ^ mark >> 32;
 #pragma GCC unroll 8
-  for (int i = 0; i < HANDLE_WORDS; i++) mark = (mark ^ reply->handle[i]) * UINT64_C(0xff51afd7ed558ccd);
+  for (int i = 0; i < words; i++) mark = (mark ^ reply->handle[i]) * UINT64_C(0xff51afd7ed558ccd);
   return mark ^ mark >> 32;
 }
 
 /* All that is to be noted of a call that was made. Returns what tells replies apart. */
 ALWAYS_INLINE uint64_t domain_memory_note(domain_memory_t *it, uint32_t place, const domain_traits_t *traits, domain_made_t made, const uint64_t *words,
                                           domain_reply_t *reply) {
-  uint64_t mark = domain_mark(domain_has_handle(traits, made.code), made.code, reply);
+  uint64_t mark = domain_mark(domain_marked_words(traits, made.code), made.code, reply);
   domain_memory_count_brought(it, traits, made.brought);
   reply->code = made.code, reply->brought = made.brought, reply->messages = it->brought[0];
   domain_memory_note_handles(it, place, traits, made.code, words, reply);

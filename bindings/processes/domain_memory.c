@@ -1,5 +1,6 @@
 // SPDX-License-Identifier: Apache-2.0 OR MIT
 #include "domain_making.h"
+#include "left_out.h"
 
 void group_memory_note_size(replica_memory_t *memory) {
   group_memory_t *it = (group_memory_t *)memory;
@@ -80,7 +81,7 @@ __attribute__((noinline)) static uint64_t make_other(domain_memory_t *it, uint32
 static uint64_t make_event(domain_memory_t *it, uint32_t place, uint64_t operation, const uint64_t *words, domain_reply_t *reply) {
   *reply = event_numbers_make(&it->events, &it->group->memory.heap, place, operation, words);
   for (int i = 0; i < DOMAIN_BRINGS; i++) it->brought[i] += reply->brought >> i & 1;
-  return domain_mark(true, reply->code, reply);
+  return domain_mark(HANDLE_WORDS, reply->code, reply);
 }
 
 /* A send of the publisher waits that another process made, which the dead one told of its publisher. */
@@ -120,15 +121,31 @@ uint64_t domain_memory_make(domain_memory_t *it, uint32_t place, uint64_t operat
   case LISTENER_CREATE:
   case LISTENER_CLOSE:
   case NOTIFY: return make_event(it, place, operation, words, reply);
+  case LOAN_DELIVER:
+  case PUBLISHER_CLOSE_CHANNEL:
+  case SUBSCRIBER_SET_CHANNEL:
+  case SUBSCRIBER_CLOSE_CHANNEL:
+  case SUBSCRIBER_SET_HINT: it->has_channel_calls = true; return make_other(it, place, operation, words, reply);
   case DOMAIN_LEAVE: give_back_all(it, place); /* fall through */
   default: return make_other(it, place, operation, words, reply);
   }
 }
 
+domain_memory_t *group_memory_named(group_memory_t *it, const uint64_t arguments[CALL_ARGUMENTS], uint64_t *operation) {
+  uint64_t which = (arguments[0] & ~(CALL_FOR_FEW | CALL_LOOKS_ELSEWHERE)) >> 32;
+  *operation = (uint32_t)arguments[0];
+  bool is_one = which < it->count && (left_out_may_be(*operation) || (arguments[0] & CALL_FOR_FEW) == 0);
+  if (!is_one) *operation = 0;
+  return &it->domains[is_one ? which : 0];
+}
+
 static uint64_t make_call(group_memory_t *it, uint32_t place, const uint64_t arguments[CALL_ARGUMENTS]) {
-  uint64_t which = arguments[0] >> 32, operation = (uint32_t)arguments[0];
-  if (which >= it->count) which = operation = 0; /* no operation */
-  return domain_memory_make(&it->domains[which], place, operation, arguments + 1, &it->replies[place]);
+  uint64_t operation;
+  domain_memory_t *domain = group_memory_named(it, arguments, &operation);
+  const uint64_t *words = arguments + 1;
+  if ((arguments[0] & CALL_LOOKS_ELSEWHERE) != 0 && operation == SAMPLE_RELEASE) words = left_out_words_here(domain, words);
+  uint64_t other = operation == LOAN_SEND ? left_out_other_place(domain, words) : 0;
+  return domain_memory_make(domain, place, operation, words, &it->replies[place]) + other;
 }
 
 __attribute__((noinline)) static uint64_t end_place(group_memory_t *it, uint32_t place) {
@@ -139,5 +156,6 @@ __attribute__((noinline)) static uint64_t end_place(group_memory_t *it, uint32_t
 
 uint64_t group_memory_apply(void *object, uint32_t place, const uint64_t arguments[CALL_ARGUMENTS]) {
   group_memory_t *it = (group_memory_t *)((replica_memory_t *)object - 1);
+  if (it->left_out != NULL) return left_out_apply(it, place, arguments);
   return arguments != NULL ? make_call(it, place, arguments) : end_place(it, place);
 }

@@ -19,11 +19,13 @@ typedef struct domain_memory_t {
   live_handles_t handles;
   book_owners_t owners;
   event_numbers_t events;
+  bool has_channel_calls; /* one was made */
   uint64_t brought[DOMAIN_BRINGS]; /* how many calls brought each of iox2ps_brings_e, how many processes died, and how many notifications came */
 } domain_memory_t;
 
 typedef struct group_memory_t {
   replica_memory_t replica;
+  struct left_out_t *left_out;     /* of a process that leaves calls out: left_out.h. Null in all others, and so in each copy */
   archive_memory_t memory;         /* of all of them: each process moves a pointer among the payloads to where it has them */
   uint64_t died[DEATHS_KEPT];      /* the numbers of the last processes that died, by turns */
   domain_reply_t *replies;         /* the last one to each place: behind the domains, and before the heap */
@@ -44,9 +46,13 @@ void group_memory_note_size(replica_memory_t *memory);
 /* Makes a call of a place, whose arguments are `domain_call` and words; the list calls it. Without arguments: gives back all that the
  * place has. */
 call_apply_t group_memory_apply;
+/* The domain that the arguments of a call name, and the operation; 0 where they name none. */
+domain_memory_t *group_memory_named(group_memory_t *it, const uint64_t arguments[CALL_ARGUMENTS], uint64_t *operation);
 /* Makes a call of a place on one of the domains, as `group_memory_apply` does. Returns what tells replies apart. */
 uint64_t domain_memory_make(domain_memory_t *it, uint32_t place, uint64_t operation, const uint64_t words[HANDLE_WORDS], domain_reply_t *reply);
-/* An operation on one of the domains, as an argument. */
+/* An operation on one of the domains, as an argument: with CALL_FOR_FEW where it is for few, and with this bit where its process leaves out
+ * calls, and so looks for samples elsewhere than others first. */
+#define CALL_LOOKS_ELSEWHERE (UINT64_C(1) << 62)
 static inline uint64_t domain_call(uint32_t domain, uint64_t operation) { return (uint64_t)domain << 32 | operation; }
 /* For a question, which changes nothing and so isn't in the list: the domain, until domain_memory_asked. */
 iox2ps_domain_t *domain_memory_ask(domain_memory_t *it);

@@ -14,7 +14,7 @@ static void in_child(void) {
     shared_files_drop_in_child(&it->member.files);
     wake_pipes_close(&it->pipes);
     shared_region_unmap(&it->region); /* so that the child can open the domain for itself */
-    it->broken = IOX2PS_PROCESSES_FORKED;
+    it->broken = IOX2PS_PROCESSES_FORKED, it->is_unusual = true;
   }
   all = NULL;
   pthread_mutex_unlock(&lock);

@@ -62,7 +62,7 @@ typedef enum iox2ps_processes_status_e {
   IOX2PS_NOTIFIER_NOTIFY_ERROR_EVENT_ID_OUT_OF_BOUNDS = 225 /**< the id is above IOX2PS_EVENT_ID_MAX_VALUE */
 } iox2ps_processes_status_e;
 
-/** What the creator of a domain decides, but for the last two, which each process has for itself. */
+/** What the creator of a domain decides, but for the last three, which each process has for itself. */
 typedef struct iox2ps_processes_options_t {
   size_t struct_size;     /**< sizeof(iox2ps_processes_options_t), as the call that fills it says */
   uint32_t max_processes; /**< 16 by default, and 64 at most */
@@ -74,7 +74,8 @@ typedef struct iox2ps_processes_options_t {
   uint32_t permissions;   /**< of the files, whatever the process' mask of new files is; 0600 by default */
   uint32_t reap_every_ms; /**< how often a process that waits or polls looks for dead ones, which its second look finds at the latest; 200 by default */
   uint32_t spins;         /**< how often a wait looks before it sleeps; 2000 by default */
-  uint32_t reserved_;     /**< 0 */
+  uint32_t leaves_out;    /**< 1: while this process has subscribers and no publisher, it leaves out calls of others' subscribers, which
+                               its own don't feel; 0 by default. What it asks about the whole makes it take a copy of all book-keeping */
 } iox2ps_processes_options_t;
 
 /** As iox2ps_processes_options_of(), for a struct of this size. Of another size than the library knows it writes struct_size alone, as 0. */

@@ -62,7 +62,7 @@ ALWAYS_INLINE uint32_t *live_handles_bucket(const live_handles_t *it, handle_kin
   return &it->buckets[key & (it->room - 1)];
 }
 
-ALWAYS_INLINE void live_handles_add(live_handles_t *it, handle_kind_t kind, uint32_t place, const uint64_t words[HANDLE_WORDS]) {
+ALWAYS_INLINE live_handle_t *live_handles_add(live_handles_t *it, handle_kind_t kind, uint32_t place, const uint64_t words[HANDLE_WORDS]) {
   uint32_t which = it->free, *first = &it->first[place][kind], *bucket = live_handles_bucket(it, kind, words);
   live_handle_t *handle = &it->all[which];
   it->free = handle->next;
@@ -72,6 +72,7 @@ ALWAYS_INLINE void live_handles_add(live_handles_t *it, handle_kind_t kind, uint
   handle->next_in_bucket = *bucket, handle->next = *first, handle->before = LIVE_HANDLES_NONE;
   if (*first != LIVE_HANDLES_NONE) it->all[*first].before = which;
   *bucket = *first = which;
+  return handle;
 }
 
 /* What names the handle in its bucket, or the end of the bucket. */

@@ -14,15 +14,17 @@ ALWAYS_INLINE iox2ps_status_t shared_domain_message(shared_domain_t *it, domain_
   replica_t *replica = &group->member.replica;
   const call_seat_t *seat = &group->seat;
   domain_reply_t *reply = group->reply;
-  if (group->broken != IOX2PS_OK) return group->broken;
-  arguments[0] = it->calls | operation;
+  if (group->is_unusual) return shared_domain_call(it, operation, arguments);
+  arguments[0] = (left_out_may_be(operation) ? it->calls_for_few : it->calls) | operation;
   domain_made_t made;
-  if (replica_add(replica, seat, arguments)) {
+  if (replica_add(replica, seat, arguments, left_out_may_be(operation))) {
+    replica->made++;
     call_list_begin(&replica->memory->progress, seat->progress);
     call_list_replied(seat->progress, domain_memory_make_given(now, it->memory, seat->place, operation, given, arguments + 1, reply, &made));
   } else {
     replica_status_t status = replica_add_announced(replica, arguments);
     if (status != REPLICA_OK) return shared_group_break(group, status);
+    shared_group_leave_out_in_time(group); /* others call, too */
     made = (domain_made_t){reply->code, reply->brought};
   }
   if (made.brought != 0) shared_domain_tell_brought(it, arguments, made.brought);

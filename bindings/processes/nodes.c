@@ -35,6 +35,7 @@ iox2ps_status_t iox2ps_domain_node_id(iox2ps_domain_t *domain, iox2ps_wide_t *no
 iox2ps_status_t iox2ps_domain_nodes(iox2ps_domain_t *domain, iox2ps_node_list_t *callback, void *context) {
   shared_domain_t *shared;
   iox2ps_status_t code = follow(domain, &shared);
+  if (code == IOX2PS_OK) code = shared_domain_become_whole(shared); /* who has how many samples */
   for (uint32_t place = 0; code == IOX2PS_OK && place < shared->group->member.files.places.count; place++) {
     bool is_dead;
     uint64_t number = places_process(&shared->group->member.files.places, place, &is_dead);

@@ -11,6 +11,10 @@
 #error "IOX2PS_SUM_OF_SOURCES has to be a sum of these files, as tools/processes makes it"
 #endif
 enum { LOADS = 1000, MAX_PROCESSES = 16, CALLS = 256, PERMISSIONS = 0600, ALL_PERMISSIONS = 0777, SPINS = 2000 };
+/* Tests of all that there is are run with 1, too. */
+#ifndef LEAVES_OUT
+#define LEAVES_OUT 0
+#endif
 
 static _Thread_local char why[sizeof ((shared_files_t *)0)->why];
 const char *iox2ps_processes_why(void) { return why; }
@@ -90,7 +94,7 @@ static uint32_t calls_of(size_t book_room) {
 /* The options of a group of domains. False where the settings of one are invalid. */
 static bool options_of(const iox2ps_domain_settings_t *settings, size_t count, iox2ps_processes_options_t *options) {
   *options = (iox2ps_processes_options_t){
-    .struct_size = sizeof *options, .max_processes = MAX_PROCESSES, .permissions = PERMISSIONS, .reap_every_ms = REAP_EVERY_MS, .spins = SPINS
+    .struct_size = sizeof *options, .max_processes = MAX_PROCESSES, .permissions = PERMISSIONS, .reap_every_ms = REAP_EVERY_MS, .spins = SPINS, .leaves_out = LEAVES_OUT
   };
   for (size_t i = 0; i < count; i++) {
     const iox2ps_config_t *config = settings[i].config;
@@ -114,7 +118,7 @@ void iox2ps_processes_options_of_sized(const iox2ps_config_t *config, iox2ps_pro
 
 static iox2ps_status_t check(const iox2ps_processes_options_t *options) {
   if (options->struct_size != sizeof *options) return refuse(IOX2PS_OPEN_ERROR_INVALID_ARGUMENT, "the options have another size: iox2ps_processes_options_of() fills them");
-  if (options->permissions > ALL_PERMISSIONS || options->reserved_ != 0) return refuse(IOX2PS_OPEN_ERROR_INVALID_ARGUMENT, "no such permissions, or a field that is reserved");
+  if (options->permissions > ALL_PERMISSIONS || options->leaves_out > 1) return refuse(IOX2PS_OPEN_ERROR_INVALID_ARGUMENT, "no such permissions, or leaves_out is neither 0 nor 1");
   return IOX2PS_OK;
 }
 
@@ -179,6 +183,7 @@ static iox2ps_status_t enter(shared_group_t *it, const asked_t *asked) {
   };
   it->member.reap_every_ms = asked->options->reap_every_ms, it->member.spins = asked->options->spins;
   it->member.rouse = shared_group_rouse, it->member.rouser = it;
+  it->leaves_out_at = asked->options->leaves_out != 0 ? 0 : UINT64_MAX;
   it->may_write = !shared_files_protect_payloads(&it->member.files, false);
   switch (member_enter(&it->member)) {
   case REPLICA_OK: return IOX2PS_OK;
@@ -189,6 +194,7 @@ static iox2ps_status_t enter(shared_group_t *it, const asked_t *asked) {
 
 static void free_group(shared_group_t *it) {
   wake_pipes_close(&it->pipes);
+  left_out_free(&it->left_out);
   shared_region_unmap(&it->region);
   free(it);
 }
@@ -223,8 +229,9 @@ static void give(const asked_t *asked, shared_group_t *group, shared_domain_t *m
   for (size_t i = 0; i < asked->count; i++) {
     const iox2ps_config_t *config = asked->settings[i].config;
     shared_domain_t *it = made[i];
-    it->group = group, it->calls = domain_call((uint32_t)i, 0), it->memory = &group->memory->domains[i], it->service_id = config->service_id;
+    it->group = group, it->calls = domain_call((uint32_t)i, 0), it->calls_for_few = it->calls | CALL_FOR_FEW, it->memory = &group->memory->domains[i], it->service_id = config->service_id;
     it->names_nodes = config->node_id.low == 0 && config->node_id.high == 0, it->deaths_told = it->deaths_known = it->memory->brought[BROUGHT_DEATHS];
+    it->lent.number = UINT64_MAX;
     asked->domains[i]->domain_ = (void *)((uintptr_t)it | 1);
   }
   forked_domains_add(group);

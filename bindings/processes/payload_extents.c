@@ -60,6 +60,12 @@ static size_t find(const payload_extents_t *it, const void *bytes) {
 
 size_t payload_extents_size(const payload_extents_t *it, const void *bytes) { return (size_t)it->all[find(it, bytes)].size * PAYLOAD_ALIGNMENT; }
 
+bool payload_extents_are_alike(const payload_extents_t *it, size_t offset, size_t other) {
+  if (offset >= it->room || offset % PAYLOAD_ALIGNMENT != 0) return false;
+  const payload_extent_t *extent = it->all + find(it, it->payloads + offset);
+  return extent->is_taken && extent->at == offset / PAYLOAD_ALIGNMENT && extent->size == it->all[find(it, it->payloads + other)].size;
+}
+
 void payload_extents_give(payload_extents_t *it, const void *bytes) {
   size_t which = find(it, bytes);
   it->all[which].is_taken = false;

@@ -27,6 +27,8 @@ static inline bool payload_extents_have(const payload_extents_t *it, const void 
 char *payload_extents_take(payload_extents_t *it, region_heap_t *heap, size_t size);
 /* How many bytes there are for what was taken here. */
 size_t payload_extents_size(const payload_extents_t *it, const void *bytes);
+/* Whether something was taken at this offset, and has as many bytes as what was taken at the other. */
+bool payload_extents_are_alike(const payload_extents_t *it, size_t offset, size_t other);
 void payload_extents_give(payload_extents_t *it, const void *bytes);
 
 #endif

@@ -42,8 +42,13 @@ static void *take_block(region_heap_t *heap, block_t *block, size_t need) {
   return block + 1;
 }
 
+static void *refuse(region_heap_t *heap) {
+  heap->has_refused = true;
+  return NULL;
+}
+
 static void *take_at_end(region_heap_t *heap, size_t need) {
-  if (heap->room - heap->used < need) return NULL;
+  if (heap->room - heap->used < need) return refuse(heap);
   block_t *block = block_at(heap, heap->used);
   *block = (block_t){.size = need | IS_TAKEN, .before = heap->last};
   if (heap->lowest_free == heap->used) heap->lowest_free += need;
@@ -53,7 +58,7 @@ static void *take_at_end(region_heap_t *heap, size_t need) {
 
 void *region_heap_take(region_heap_t *heap, size_t size) {
   size_t need = needed(heap, size);
-  if (need == 0) return NULL;
+  if (need == 0) return refuse(heap);
   bool is_first = true;
   for (size_t at = heap->lowest_free; at < heap->used; at += size_of(block_at(heap, at))) {
     block_t *block = block_at(heap, at);

@@ -16,6 +16,7 @@ typedef struct region_heap_t {
   size_t used, room;  /* bytes of all blocks, and how many there may be */
   size_t last;        /* of the last block; 0 where there is none */
   size_t lowest_free; /* no block that begins before is free */
+  bool has_refused;   /* since whoever asks said that it hasn't */
 } region_heap_t;
 
 region_heap_t region_heap_at(void *region, size_t room);

@@ -38,12 +38,16 @@ void replica_end_copy(replica_t *it) {
 /* By the newest copy that this process has heard of. */
 static bool is_copy_due(const replica_t *it, uint64_t after) { return it->memory->progress.made + 1 >= copies_newest(&it->copies) + after; }
 
-/* Half a list at most, so that whoever finds its next call overwritten finds a copy that is further. */
-void replica_copy_if_due(replica_t *it) {
+/* Half a list at most, so that whoever finds its next call overwritten finds a copy that is further; and a quarter more where nobody
+ * copies who makes all calls. */
+bool replica_copy_if_due(replica_t *it) {
   uint64_t after = it->list.length / 2;
   if (is_copy_due(it, after)) replica_end_copy(it);
-  if (is_copy_due(it, after)) make_copy(it);
+  bool is_due = is_copy_due(it, after);
+  if (is_due && it->leaves_out) return !is_copy_due(it, after + after / 2);
+  if (is_due) make_copy(it);
   it->copy_due = copies_newest(&it->copies) + after - 1;
+  return true;
 }
 
 /* How many calls behind the newest copy the next one is begun: so early that its pieces are made before it is due, as calls go by meanwhile,
@@ -60,7 +64,7 @@ static uint64_t early(const replica_t *it) {
 void replica_idle(replica_t *it) {
   uint64_t after = it->only_follows ? it->list.length / 8 : early(it);
   if (is_copying(it)) go_on_copying(it, COPY_PIECE);
-  else if (!is_copy_due(it, after) || !copies_claim(&it->copies, it->memory->progress.made, after)) return;
+  else if (it->leaves_out || !is_copy_due(it, after) || !copies_claim(&it->copies, it->memory->progress.made, after)) return;
   else if (it->only_follows || it->snapshot == NULL) make_copy(it);
   else begin_copy(it);
 }
@@ -68,7 +72,10 @@ void replica_idle(replica_t *it) {
 static replica_status_t load(replica_t *it) {
   for (uint32_t turn = 0; turn < it->loads; turn++) {
     switch (copies_load(&it->copies, it->memory)) {
-      case COPY_LOADED: return REPLICA_OK;
+      case COPY_LOADED:
+        it->leaves_out = it->wants_whole = false;
+        it->loaded++;
+        return REPLICA_OK;
       case COPY_CHANGED: continue;
       case COPY_NONE:
       case COPY_DAMAGED: return REPLICA_DAMAGED;
@@ -82,10 +89,22 @@ static replica_status_t load(replica_t *it) {
 static replica_status_t follow(replica_t *it, uint64_t most, uint64_t entries, const uint64_t *announced) {
   call_progress_t *progress = &it->memory->progress;
   uint32_t behind = 0;
-  while (most > 0 && progress->of[it->place].entries < entries) {
+  uint64_t left_out;
+  while (true) {
     replica_status_t status;
-    switch (call_list_step(&it->list, progress, it->apply, it->memory + 1, (call_own_t){it->place, announced})) {
-      case CALL_MADE: most--; break;
+    if (it->is_misled) return REPLICA_DAMAGED;
+    if (it->wants_whole && (status = load(it)) != REPLICA_OK) return status;
+    if (most == 0 || progress->of[it->place].entries >= entries) return REPLICA_OK;
+    bool is_own = progress->of[it->place].entries + 1 == entries; /* after a copy is taken, earlier ones may be made again */
+    switch (call_list_step(&it->list, progress, it->apply, it->memory + 1, (call_own_t){it->place, is_own ? announced : NULL, it->leaves_out})) {
+      case CALL_LEFT_OUT:
+        most--, it->left_out++;
+        left_out = call_list_leave_out(&it->list, progress, it->place, most);
+        most -= left_out, it->left_out += left_out;
+        break;
+      case CALL_MADE:
+        most--, it->made++;
+        break;
       case CALL_NONE: return REPLICA_OK;
       case CALL_BEHIND:
         if (behind++ == it->loads) return REPLICA_OUTRUN;
@@ -95,7 +114,6 @@ static replica_status_t follow(replica_t *it, uint64_t most, uint64_t entries, c
       case CALL_DIVERGED: return REPLICA_DIVERGED;
     }
   }
-  return REPLICA_OK;
 }
 
 replica_status_t replica_add_announced(replica_t *it, const uint64_t *announced) {
@@ -104,8 +122,8 @@ replica_status_t replica_add_announced(replica_t *it, const uint64_t *announced)
   while (true) {
     replica_status_t status = follow(it, UINT64_MAX, entries, announced);
     if (status != REPLICA_OK || progress->of[it->place].entries >= entries) return status;
-    replica_copy_if_due(it);
-    (void)call_list_add(&it->list, progress, it->place);
+    if (replica_copy_if_due(it)) (void)call_list_add(&it->list, progress, it->place);
+    else if ((status = load(it)) != REPLICA_OK) return status;
   }
 }
 
@@ -124,10 +142,11 @@ replica_status_t replica_follow(replica_t *it, uint64_t most, bool is_idle) {
 
 replica_status_t replica_call(replica_t *it, const uint64_t arguments[CALL_ARGUMENTS]) {
   call_seat_t seat = call_seat_at(&it->list, &it->memory->progress, it->place);
-  if (!replica_add(it, &seat, arguments)) return replica_add_announced(it, arguments);
+  if (!replica_add(it, &seat, arguments, (arguments[0] & CALL_FOR_FEW) != 0)) return replica_add_announced(it, arguments);
+  it->made++;
   call_list_begin(&it->memory->progress, seat.progress);
   call_list_replied(seat.progress, it->apply(it->memory + 1, it->place, arguments));
-  return REPLICA_OK;
+  return it->wants_whole ? replica_join(it) : REPLICA_OK;
 }
 
 replica_status_t replica_call_end(replica_t *it, call_end_t end) {

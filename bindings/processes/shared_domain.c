@@ -5,6 +5,7 @@
 #include <time.h>
 
 iox2ps_status_t shared_group_break(shared_group_t *it, replica_status_t status) {
+  it->is_unusual = true;
   return it->broken = status == REPLICA_DIVERGED ? IOX2PS_PROCESSES_DIVERGED : IOX2PS_PROCESSES_DAMAGED;
 }
 
@@ -13,6 +14,40 @@ iox2ps_status_t shared_domain_follow(shared_domain_t *it) {
   replica_status_t status = replica_follow(&it->group->member.replica, UINT64_MAX, false);
   return status == REPLICA_OK ? IOX2PS_OK : shared_group_break(it->group, status);
 }
+
+/* ---- calls of others that are left out */
+
+static uint64_t some_calls_later(const shared_group_t *it) { return it->memory->replica.progress.made + it->member.replica.list.length / 8; }
+
+void shared_group_leave_out(shared_group_t *it) {
+  if (it->broken != IOX2PS_OK || it->member.replica.leaves_out) return;
+  if (!left_out_begin(&it->left_out, it->memory, &it->member.replica)) it->leaves_out_at = some_calls_later(it);
+  it->is_unusual = it->member.replica.leaves_out;
+}
+
+iox2ps_status_t shared_domain_become_whole(shared_domain_t *it) {
+  shared_group_t *group = it->group;
+  if (group->broken != IOX2PS_OK || !group->member.replica.leaves_out) return group->broken;
+  replica_status_t status = replica_join(&group->member.replica);
+  if (status != REPLICA_OK) return shared_group_break(group, status);
+  group->leaves_out_at = some_calls_later(group);
+  return IOX2PS_OK;
+}
+
+uint64_t shared_domain_place_of_loan(shared_domain_t *it, const uint64_t words[HANDLE_WORDS]) {
+  if (shared_domain_become_whole(it) != IOX2PS_OK) return 0; /* and the call says so */
+  const live_handle_t *loan = live_handles_find(&it->memory->handles, HANDLE_LOAN, words);
+  return loan != NULL ? loan->words[LOAN_PLACE_WORD] : 0;
+}
+
+/* A call of a process that leaves out those of others. */
+static iox2ps_status_t prepare_left_out(shared_domain_t *it, domain_operation_t operation, uint64_t arguments[CALL_ARGUMENTS]) {
+  if (!left_out_may_call(operation)) return shared_domain_become_whole(it);
+  if (operation == SAMPLE_RELEASE) arguments[0] |= CALL_LOOKS_ELSEWHERE;
+  return IOX2PS_OK;
+}
+
+/* ---- the dead */
 
 iox2ps_status_t shared_domain_reap(shared_domain_t *it, size_t *found) {
   if (it->group->broken != IOX2PS_OK) return it->group->broken;
@@ -106,7 +141,10 @@ iox2ps_status_t shared_domain_call_again(shared_domain_t *it, uint64_t arguments
 
 iox2ps_status_t shared_domain_call(shared_domain_t *it, domain_operation_t operation, uint64_t arguments[CALL_ARGUMENTS]) {
   if (it->group->broken != IOX2PS_OK) return it->group->broken;
-  arguments[0] = it->calls | operation;
+  arguments[0] = it->calls | operation | left_out_mark(operation);
+  it->group->is_unusual = it->group->member.replica.leaves_out;
+  iox2ps_status_t code = it->group->is_unusual ? prepare_left_out(it, operation, arguments) : IOX2PS_OK;
+  if (code != IOX2PS_OK) return code;
   replica_status_t status = replica_call(&it->group->member.replica, arguments);
   if (status != REPLICA_OK) return shared_group_break(it->group, status);
   const domain_reply_t *reply = shared_domain_reply(it);

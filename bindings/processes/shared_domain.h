@@ -5,6 +5,7 @@
 
 #include "domain_memory.h"
 #include "iox2_pubsub_processes.h"
+#include "left_out.h"
 #include "member.h"
 #include "shared_region.h"
 #include "wake_pipes.h"
@@ -22,7 +23,10 @@ typedef struct shared_group_t {
   uint64_t other_places;  /* of other processes, a bit each */
   uint32_t open;          /* how many of its domains this process hasn't destroyed */
   iox2ps_status_t broken; /* what each call returns from now on, or IOX2PS_OK */
+  bool is_unusual;        /* it is broken, or leaves out calls of others: then no call takes the short way of message_calls.h */
   bool may_write;         /* this process may write payloads now */
+  left_out_t left_out;
+  uint64_t leaves_out_at; /* when so many calls are made, it tries to leave out calls of others; never where its options don't say it */
   uint64_t reaps_at;      /* when a process that only polls, or a thread that sleeps for others, looks for the dead again */
   struct shared_group_t *next; /* of this process */
 } shared_group_t;
@@ -30,13 +34,14 @@ typedef struct shared_group_t {
 typedef struct shared_domain_t {
   shared_group_t *group;
   domain_memory_t *memory;
-  uint64_t calls; /* `domain_call` of no operation */
+  uint64_t calls, calls_for_few; /* `domain_call` of no operation, and of none that is for few */
   iox2ps_wide_t service_id;
   bool names_nodes;         /* headers name processes, and not a node that the settings name */
   iox2ps_node_list_t *died; /* told of processes that died since; or null */
   void *listener;
   uint64_t deaths_told;
   uint64_t deaths_known;    /* when a call was refused last for want of room */
+  struct { uint64_t number; const char *payload; } lent; /* the loan that was made last */
   uint64_t own_brought[1 << DOMAIN_BRINGS]; /* how many calls of this process brought each sum */
   /* Subscribers that found nothing, and how many calls had brought a message by then, and 1. */
   struct { uint64_t id, messages; } empty[EMPTY_SUBSCRIBERS];
@@ -68,6 +73,17 @@ ALWAYS_INLINE void shared_domain_tell_brought(shared_domain_t *it, const uint64_
   it->own_brought[brought]++;
   if (sleepers_are_there(it->group->member.files.sleepers, it->group->other_places)) shared_domain_wake(it, arguments);
 }
+
+/* Leaves out calls of others from here on, where this process may; else it is tried again some calls later. */
+void shared_group_leave_out(shared_group_t *it);
+/* The same, if it is time for it. */
+static inline void shared_group_leave_out_in_time(shared_group_t *it) {
+  if (it->memory->replica.progress.made >= it->leaves_out_at) shared_group_leave_out(it);
+}
+/* Makes all calls from here on, for a while at least: by whoever needs to know what all have of the domain. */
+iox2ps_status_t shared_domain_become_whole(shared_domain_t *it);
+/* LOAN_PLACE_WORD of a loan. */
+uint64_t shared_domain_place_of_loan(shared_domain_t *it, const uint64_t words[HANDLE_WORDS]);
 
 /* Adds a call to the list and makes it. The words of the arguments are those of the call; the operation is put before them. Returns the
  * code of the reply, or what the list itself says. */

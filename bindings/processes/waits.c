@@ -4,6 +4,9 @@
 
 typedef struct waiter_t { const domain_memory_t *memory; uint32_t brings; uint64_t seen; } waiter_t;
 
+/* What a release brings, or a receive, or the end of a send that waits: only who makes all calls has counted it. */
+static bool is_of_all(uint32_t brings) { return (brings & (IOX2PS_BRINGS_ROOM | IOX2PS_BRINGS_FREE | IOX2PS_BRINGS_LOAN)) != 0; }
+
 static uint64_t count_of(const domain_memory_t *memory, uint32_t brings) {
   uint64_t count = 0;
   for (int i = 0; i < DOMAIN_BRINGS; i++) count += (brings >> i & 1) * memory->brought[i];
@@ -19,7 +22,8 @@ iox2ps_status_t iox2ps_domain_brought(iox2ps_domain_t *domain, uint32_t brings, 
   shared_domain_t *shared = shared_domain_of(domain);
   if (shared == NULL) return domain->domain_ == NULL ? IOX2PS_NO_DOMAIN : IOX2PS_PROCESSES_NOT_SHARED;
   if (!domain_brings_are_known(brings)) return IOX2PS_OPEN_ERROR_INVALID_ARGUMENT;
-  iox2ps_status_t code = shared_domain_follow(shared);
+  iox2ps_status_t code = is_of_all(brings) ? shared_domain_become_whole(shared) : IOX2PS_OK;
+  if (code == IOX2PS_OK) code = shared_domain_follow(shared);
   if (code == IOX2PS_OK) *count = count_of(shared->memory, brings);
   return code;
 }
@@ -27,7 +31,8 @@ iox2ps_status_t iox2ps_domain_brought(iox2ps_domain_t *domain, uint32_t brings, 
 iox2ps_status_t iox2ps_domain_brought_each(iox2ps_domain_t *domain, uint64_t counts[DOMAIN_BRINGS]) {
   shared_domain_t *shared = shared_domain_of(domain);
   if (shared == NULL) return domain->domain_ == NULL ? IOX2PS_NO_DOMAIN : IOX2PS_PROCESSES_NOT_SHARED;
-  iox2ps_status_t code = shared_domain_follow(shared);
+  iox2ps_status_t code = shared_domain_become_whole(shared);
+  if (code == IOX2PS_OK) code = shared_domain_follow(shared);
   if (code == IOX2PS_OK) memcpy(counts, shared->memory->brought, sizeof shared->memory->brought);
   return code;
 }
@@ -46,6 +51,8 @@ iox2ps_status_t iox2ps_domain_wait(iox2ps_domain_t *domain, uint32_t brings, uin
   shared_domain_t *shared = shared_domain_of(domain);
   if (shared == NULL) return domain->domain_ == NULL ? IOX2PS_NO_DOMAIN : IOX2PS_PROCESSES_NOT_SHARED;
   if (!domain_brings_are_known(brings)) return IOX2PS_OPEN_ERROR_INVALID_ARGUMENT;
+  iox2ps_status_t code = is_of_all(brings) ? shared_domain_become_whole(shared) : IOX2PS_OK;
+  if (code != IOX2PS_OK) return code;
   waiter_t waiter = {shared->memory, brings, count};
   return shared_domain_wait(shared, brings, has_more, &waiter, timeout_ns);
 }

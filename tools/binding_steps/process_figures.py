@@ -10,7 +10,7 @@ from collections import defaultdict
 from contextlib import contextmanager, nullcontext
 from dataclasses import dataclass
 
-from . import machine, rust_beside
+from . import machine, process_bursts, rust_beside
 from .headers import ICEORYX
 from .lengths import ROUDI, has_roudi
 from .places import BINDINGS, is_here, version
@@ -85,6 +85,19 @@ def of_c(work, library, main):
     """The program over this library."""
     said("gcc", main, compiled(work, "gcc", "by_processes.c", *library.includes()), library.packed, "-o", work / "by_processes")
     return work / "by_processes"
+
+
+def bursts(work, library):
+    """The programs that say what processors take of a message."""
+    main = compiled(work, "gcc", "bursts.c")
+    ours = work / "bursts"
+    said("gcc", main, compiled(work, "gcc", "by_processes.c", *library.includes()), library.packed, "-o", ours)
+    found = {process_bursts.OURS: ours, process_bursts.LEAVES_OUT: ours}
+    if has_roudi():
+        folder = work / "of_bursts"
+        folder.mkdir()
+        found[process_bursts.OTHER] = of_iceoryx(folder, main)
+    return found
 
 
 def programs(work, library, times="figures.c"):
@@ -267,15 +280,20 @@ def run_figures(work, library, rounds, share, parts=()):
     """These parts or all, and the exit status."""
     by, figures = programs(work, library), defaultdict(list)
     plan = plan_of(parts, by)
+    by_bursts, of_bursts = bursts(work, library) if not parts or "subscribers" in parts else {}, defaultdict(list)
     for turn in range(rounds):
         print(f"round {turn + 1} of {rounds}, load {machine.load():.1f}", flush=True)
         for row, names in plan.items():
             for name in names:
                 figures[row, name].append(measure(name, by[name], row, share))
             print(f"  {row.what}: {row.words()}", flush=True)
+        if by_bursts:
+            process_bursts.measure(by_bursts, share, printed_by, broker_of, of_bursts)
     print(heading())
     say_tables(by, figures)
-    judged = [judge(figures), *(judge_beside_c(figures, language) for language in (CPP, RUST))]
+    if by_bursts:
+        process_bursts.say_table(by_bursts, of_bursts)
+    judged = [judge(figures), process_bursts.judge(of_bursts), *(judge_beside_c(figures, language) for language in (CPP, RUST))]
     passed, failed = (sum(counts) for counts in zip(*judged))
     print(f"{passed} passed, {failed} failed")
     return int(failed > 0)

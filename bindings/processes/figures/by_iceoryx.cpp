@@ -37,8 +37,8 @@ void carrier_open(uint32_t process) {
   iox::runtime::PoshRuntime::initRuntime(iox::RuntimeName_t(iox::cxx::TruncateToCapacity, std::string(is.name) + "_" + std::to_string(process)));
   iox::popo::PublisherOptions of;
   iox::popo::SubscriberOptions to;
-  of.subscriberTooSlowPolicy = iox::popo::ConsumerTooSlowPolicy::WAIT_FOR_CONSUMER;
-  to.queueFullPolicy = iox::popo::QueueFullPolicy::BLOCK_PRODUCER;
+  if (!is.overflows) of.subscriberTooSlowPolicy = iox::popo::ConsumerTooSlowPolicy::WAIT_FOR_CONSUMER;
+  if (!is.overflows) to.queueFullPolicy = iox::popo::QueueFullPolicy::BLOCK_PRODUCER;
   to.queueCapacity = is.buffer;
   const char *sends_on = process == 0 ? "forth" : "back", *receives_on = process == 0 ? "back" : "forth";
   if (process == 0 || (process == 1 && !is.is_one_way)) publisher = std::make_unique<iox::popo::UntypedPublisher>(service(sends_on), of);
@@ -59,6 +59,16 @@ void carrier_send(uint64_t number) {
       publisher->publish(payload);
     })
     .or_else([](auto) { fail("no loan"); });
+}
+
+bool carrier_take(std::uint64_t *number) {
+  bool is_there = false;
+  subscriber->take().and_then([&](const void *payload) {
+    *number = *static_cast<const volatile std::uint64_t *>(payload);
+    subscriber->release(payload);
+    is_there = true;
+  });
+  return is_there;
 }
 
 uint64_t carrier_receive(void) {

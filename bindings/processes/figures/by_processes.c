@@ -28,9 +28,10 @@ static void open_way(int which) {
   iox2ps_processes_options_t options;
   iox2ps_config_defaults(&config, 7, is.bytes, 8);
   config.max_publishers = 1, config.max_subscribers = which == FORTH ? is.subscribers : 1;
-  config.subscriber_max_buffer_size = is.buffer, config.enable_safe_overflow = 0;
+  config.subscriber_max_buffer_size = is.buffer, config.enable_safe_overflow = is.overflows;
   iox2ps_processes_options_of(&config, &options);
   if (is.sleeps) options.spins = 0;
+  options.leaves_out = is.leaves_out;
   snprintf(name, sizeof name, "%s.%d", is.name, which);
   must(iox2ps_domain_open_or_create(&domains[which], name, "bytes", &config, &options));
 }
@@ -81,6 +82,18 @@ void carrier_send(uint64_t number) {
     code = iox2ps_blocked_retry(domain, &blocked, 0, &receivers);
   }
   must(code);
+}
+
+bool carrier_take(uint64_t *number) {
+  iox2ps_sample_t sample;
+  const void *payload;
+  size_t len;
+  iox2ps_status_t code = iox2ps_subscriber_receive(&domains[receives_on], &subscriber, &sample, &payload, &len);
+  if (code == IOX2PS_NO_SAMPLE) return false;
+  must(code);
+  *number = *(const volatile uint64_t *)payload;
+  must(iox2ps_sample_release(&domains[receives_on], &sample));
+  return true;
 }
 
 uint64_t carrier_receive(void) {

@@ -72,7 +72,10 @@ static void be_subscriber(const traffic_t *traffic, uint32_t process, uint64_t c
 
 int main(int count, char **words) {
   if (count != 8) return 2;
-  traffic_t traffic = {words[1], strtoull(words[2], NULL, 10), (uint32_t)atoi(words[3]), strcmp(words[4], "sleep") == 0, strcmp(words[5], "one_way") == 0, (uint32_t)atoi(words[7])};
+  traffic_t traffic = {
+    .name = words[1], .bytes = strtoull(words[2], NULL, 10), .subscribers = (uint32_t)atoi(words[3]), .sleeps = strcmp(words[4], "sleep") == 0,
+    .is_one_way = strcmp(words[5], "one_way") == 0, .buffer = (uint32_t)atoi(words[7])
+  };
   uint64_t messages = strtoull(words[6], NULL, 10);
   common = mmap(NULL, sizeof *common, PROT_READ | PROT_WRITE, MAP_SHARED | MAP_ANONYMOUS, -1, 0);
   if (common == MAP_FAILED) return 1;

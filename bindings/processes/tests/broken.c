@@ -10,7 +10,7 @@
 #include <string.h>
 #include <sys/wait.h>
 
-enum { BYTES = 32, MESSAGES = 20, NO_SUCH_PLACE = CALL_PLACES - 1, ENTRY_BITS = 14, PLACE_BITS = 6, HOUR_MS = 3600000 };
+enum { BYTES = 32, MESSAGES = 20, NO_SUCH_PLACE = CALL_PLACES - 1, HOUR_MS = 3600000 };
 
 static char name[64];
 static iox2ps_config_t config;
@@ -151,7 +151,7 @@ static shared_group_t *group_of(const iox2ps_domain_t *domain) { return shared_d
 static void damage(const iox2ps_domain_t *domain) {
   const call_list_t *list = &group_of(domain)->member.files.list;
   uint64_t call = group_of(domain)->memory->replica.progress.made;
-  atomic_store(&list->order[call % list->length], (call + 1) << (ENTRY_BITS + PLACE_BITS) | (uint64_t)NO_SUCH_PLACE << ENTRY_BITS);
+  atomic_store(&list->order[call % list->length], (call + 1) << CALL_NAME_BITS | (uint64_t)NO_SUCH_PLACE << CALL_ENTRY_BITS);
 }
 
 static void damaged(void) {

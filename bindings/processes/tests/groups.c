@@ -139,7 +139,7 @@ static void writes_in_the_second(void) {
 static void call_on_both(uint64_t seed) {
   forget_parents();
   static random_caller_t callers[DOMAINS];
-  for (uint64_t i = 0; i < DOMAINS; i++) callers[i] = (random_caller_t){.domain = IOX2PS_DOMAIN_INIT, .state = seed + i, .number = (2 * seed + i) << 32};
+  for (uint64_t i = 0; i < DOMAINS; i++) callers[i] = (random_caller_t){.domain = IOX2PS_DOMAIN_INIT, .state = seed + i};
   iox2ps_domain_t *const domains[DOMAINS] = {&callers[0].domain, &callers[1].domain};
   CHECK(iox2ps_domains_open(domains, DOMAINS, name, settings, NULL) == IOX2PS_OK);
   while (true) call_by_random(&callers[random_below(&callers[0], DOMAINS)]);

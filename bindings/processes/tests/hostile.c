@@ -110,7 +110,7 @@ static bool attack(uint32_t which, int rounds) {
 static void name_nonsense(uint64_t place, uint64_t entry) {
   _Atomic uint64_t *order = &keeper.files.list.order[keeper.replica.memory->progress.made % LENGTH];
   uint64_t before = *order;
-  *order = (keeper.replica.memory->progress.made + 1) << 20 | place << 14 | entry;
+  *order = (keeper.replica.memory->progress.made + 1) << CALL_NAME_BITS | place << CALL_ENTRY_BITS | entry;
   CHECK(replica_follow(&keeper.replica, 1, false) == REPLICA_DAMAGED);
   *order = before;
 }
@@ -123,7 +123,7 @@ static void spoil_own_call(int word) {
   call_list_write(&list, &seat, entry, arguments, keeper.replica.memory->progress.of[keeper.replica.place].reply << 1);
   list.entries[keeper.replica.place * 2 * LENGTH + entry % (2 * LENGTH)].words[word] ^= 1;
   call_list_add(&list, &keeper.replica.memory->progress, keeper.replica.place);
-  call_own_t own = {keeper.replica.place, arguments};
+  call_own_t own = {.place = keeper.replica.place, .arguments = arguments};
   call_step_t step = call_list_step(&list, &keeper.replica.memory->progress, apply, keeper.replica.memory + 1, own);
   CHECK(step == CALL_DAMAGED && keeper.replica.memory->progress.of[keeper.replica.place].entries == entry);
   list.entries[keeper.replica.place * 2 * LENGTH + entry % (2 * LENGTH)].words[word] ^= 1;
@@ -145,6 +145,7 @@ static void aim(void) {
   CHECK(join_mailbox(&keeper, name, SHARED_CREATE, true) == SHARED_OK);
   for (uint64_t place = PLACES; place < CALL_PLACES; place++) name_nonsense(place, 0);
   for (uint64_t entry = 1; entry < 1 << 14; entry++) name_nonsense(1, entry);
+  name_nonsense(1, CALL_NAMED_FOR_FEW); /* its entry isn't */
   for (int word = 0; word < CALL_WORDS; word++) spoil_own_call(word);
   const copies_t *copies = &keeper.files.copies;
   copy_head_t *head = &copies->heads[*copies->newest & 127];

@@ -1,5 +1,5 @@
 // SPDX-License-Identifier: Apache-2.0 OR MIT
-/* A process that makes random calls of iox2_pubsub.h on a domain, all kinds, and looks at the bytes of each message. */
+/* A process that makes random calls of iox2_pubsub.h on a domain, all kinds or those of a role, and looks at the bytes of each message. */
 #ifndef IOX2PS_RANDOM_CALLER_H
 #define IOX2PS_RANDOM_CALLER_H
 
@@ -12,15 +12,19 @@
 
 enum { MESSAGE_WORDS = 8, MOST = 4 };
 
+/* Who publishes or subscribes makes no call by which others would have to make all calls from then on; and of its publishers few wait. */
+typedef enum caller_role_t { CALLS_ALL, PUBLISHES, SUBSCRIBES } caller_role_t;
+
 typedef struct random_caller_t {
   iox2ps_domain_t domain;
-  uint64_t state, number; /* of the random numbers; of the last message, with the caller's own number above */
+  uint64_t state; /* of the random numbers */
+  caller_role_t role;
   uint64_t received;
   struct { bool is_there; iox2ps_publisher_t is; } publishers[MOST];
   struct { bool is_there; iox2ps_subscriber_t is; } subscribers[MOST];
   struct { bool is_there; iox2ps_loan_t is; uint64_t *words; } loans[MOST];
   struct { bool is_there; iox2ps_blocked_t is; } blocked[MOST];
-  struct { bool is_there; iox2ps_sample_t is; const uint64_t *words; uint64_t number; } samples[MOST];
+  struct { bool is_there; iox2ps_sample_t is; const uint64_t *words; } samples[MOST];
 } random_caller_t;
 
 static uint64_t random_below(random_caller_t *it, uint64_t limit) {
@@ -28,16 +32,22 @@ static uint64_t random_below(random_caller_t *it, uint64_t limit) {
   return (it->state >> 33) % limit;
 }
 
+/* What each word of a message is, so that no other message is taken for it. */
+static uint64_t word_of(iox2ps_wide_t service_id, iox2ps_wide_t number) { return (number.low + 1) << 8 | (service_id.low & 0xff); }
+
+/* Whether something is done that makes others make all calls for a while: of a role seldom. */
+static bool is_time(random_caller_t *it, uint64_t one_of) { return random_below(it, it->role == CALLS_ALL ? one_of : 10 * one_of) == 0; }
+
 static void change_publisher(random_caller_t *it) {
   uint64_t which = random_below(it, MOST);
   iox2ps_config_t config;
   iox2ps_publisher_options_t options;
   iox2ps_status_t code;
   if (it->publishers[which].is_there) {
-    code = random_below(it, 6) == 0 ? iox2ps_publisher_close(&it->domain, &it->publishers[which].is) : iox2ps_publisher_update_connections(&it->domain, &it->publishers[which].is);
+    code = is_time(it, 6) ? iox2ps_publisher_close(&it->domain, &it->publishers[which].is) : iox2ps_publisher_update_connections(&it->domain, &it->publishers[which].is);
     CHECK(code == IOX2PS_OK || code == IOX2PS_PUBLISHER_IS_BLOCKED || code == IOX2PS_NOT_LIVE);
     it->publishers[which].is_there = iox2ps_publisher_update_connections(&it->domain, &it->publishers[which].is) != IOX2PS_NOT_LIVE;
-  } else if (random_below(it, 2) == 0) {
+  } else if (!is_time(it, it->role == CALLS_ALL ? 2 : 10)) {
     code = iox2ps_publisher_create(&it->domain, &it->publishers[which].is);
     it->publishers[which].is_there = code == IOX2PS_OK;
     CHECK(code == IOX2PS_OK || code == IOX2PS_PUBLISHER_CREATE_ERROR_EXCEEDS_MAX_SUPPORTED_PUBLISHERS);
@@ -61,7 +71,7 @@ static void change_subscriber(random_caller_t *it) {
     code = random_below(it, 2) == 0 ? iox2ps_subscriber_create(&it->domain, &it->subscribers[which].is) : iox2ps_subscriber_create_with(&it->domain, &options, &it->subscribers[which].is);
     it->subscribers[which].is_there = code == IOX2PS_OK;
     CHECK(code == IOX2PS_OK || code == IOX2PS_SUBSCRIBER_CREATE_ERROR_EXCEEDS_MAX_SUPPORTED_SUBSCRIBERS);
-  } else if (random_below(it, 6) == 0) {
+  } else if (is_time(it, 6)) {
     CHECK(iox2ps_subscriber_close(&it->domain, &it->subscribers[which].is) == IOX2PS_OK);
     CHECK(iox2ps_subscriber_has_samples(&it->domain, &it->subscribers[which].is, &waits) == IOX2PS_NOT_LIVE);
     it->subscribers[which].is_there = false;
@@ -84,8 +94,7 @@ static void lend(random_caller_t *it) {
   if (code != IOX2PS_OK) return;
   it->loans[which].words = payload;
   for (uint64_t i = 0; is_clear && i < words; i++) CHECK(it->loans[which].words[i] == 0);
-  it->number++;
-  for (uint64_t i = 0; i < words; i++) it->loans[which].words[i] = it->number;
+  for (uint64_t i = 0; i < words; i++) it->loans[which].words[i] = word_of(it->loans[which].is.service_id, it->loans[which].is.number);
 }
 
 static void note_blocked(random_caller_t *it, const iox2ps_blocked_t *blocked) {
@@ -132,7 +141,8 @@ static void receive(random_caller_t *it) {
   if (code != IOX2PS_OK) return;
   CHECK(iox2ps_sample_payload(&it->domain, &it->samples[which].is, &again, &len_again) == IOX2PS_OK && again == payload && len_again == len);
   CHECK(iox2ps_sample_header(&it->domain, &it->samples[which].is, &header) == IOX2PS_OK && header.number_of_elements == len);
-  it->samples[which].words = payload, it->samples[which].number = it->samples[which].words[0];
+  it->samples[which].words = payload;
+  for (size_t i = 0; i < len / sizeof(uint64_t); i++) CHECK(it->samples[which].words[i] == word_of(it->samples[which].is.service_id, it->samples[which].is.number));
   it->received++;
 }
 
@@ -142,7 +152,8 @@ static void release(random_caller_t *it) {
   uint64_t copy[MESSAGE_WORDS];
   size_t len;
   CHECK(iox2ps_sample_copy(&it->domain, &it->samples[which].is, copy, sizeof copy, &len) == IOX2PS_OK);
-  for (size_t i = 0; i < len / sizeof *copy; i++) CHECK(copy[i] == it->samples[which].number && it->samples[which].words[i] == copy[i] && copy[i] != 0);
+  uint64_t word = word_of(it->samples[which].is.service_id, it->samples[which].is.number);
+  for (size_t i = 0; i < len / sizeof *copy; i++) CHECK(copy[i] == word && it->samples[which].words[i] == word);
   CHECK(iox2ps_sample_release(&it->domain, &it->samples[which].is) == IOX2PS_OK);
   CHECK(iox2ps_sample_release(&it->domain, &it->samples[which].is) == IOX2PS_NOT_LIVE);
   it->samples[which].is_there = false;
@@ -182,7 +193,13 @@ static void deliver(random_caller_t *it) {
 
 static void call_by_random(random_caller_t *it) {
   static void (*const calls[])(random_caller_t *) = {change_publisher, change_subscriber, lend, lend, lend, spend, spend, spend, deliver, change_channel, go_on, receive, receive, receive, release, release};
-  calls[random_below(it, sizeof calls / sizeof *calls)](it);
+  static void (*const of_publishers[])(random_caller_t *) = {change_publisher, lend, lend, lend, spend, spend, spend, go_on, receive, release, change_subscriber};
+  static void (*const of_subscribers[])(random_caller_t *) = {change_subscriber, receive, receive, receive, receive, release, release, release, release};
+  switch (it->role) {
+  case CALLS_ALL: calls[random_below(it, sizeof calls / sizeof *calls)](it); break;
+  case PUBLISHES: of_publishers[random_below(it, sizeof of_publishers / sizeof *of_publishers)](it); break;
+  case SUBSCRIBES: of_subscribers[random_below(it, sizeof of_subscribers / sizeof *of_subscribers)](it); break;
+  }
 }
 
 #endif

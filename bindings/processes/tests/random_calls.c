@@ -3,8 +3,9 @@
 /* Several processes make random calls on one domain. Another one makes each call of their list on a domain of its own, in memory of
  * malloc, too: it gets the same replies, so that all of them together are as one process is that makes the same calls.
  *
- *   random_calls          one list with overflow, and one without
- *   random_calls whole    twenty of either */
+ *   random_calls          one list with overflow, and one without; and one of either of two processes that publish, and four that leave out
+ *                         calls of others
+ *   random_calls whole    twenty of each */
 #include "children.h"
 #include "domain_making.h"
 #include "random_caller.h"
@@ -14,12 +15,15 @@
 #include <sys/wait.h>
 #include <time.h>
 
-enum { CALLERS = 4, CALLS = 2500, PARTS = 3, MOST_AHEAD = 256, LENGTH = 1024, WHOLE = 20, MOST_TRIES = 20 };
+enum { CALLERS = 4, PUBLISHERS = 2, CALLS = 2500, PARTS = 3, MOST_AHEAD = 256, LENGTH = 1024, WHOLE = 20, MOST_TRIES = 20 };
 
 static iox2ps_domain_t ordinary; /* of one process */
 static struct { uint64_t calls, by_others, last_place, blocked, samples, ends; } seen;
-/* Of all processes: how many calls the observer has made, and how many callers are ready. */
-static struct { _Atomic uint64_t observed, ready; } *common;
+/* Of all processes: how many calls the observer has made, how many callers are ready; how many calls those left out that may, and made. */
+static struct { _Atomic uint64_t observed, ready, left_out, made; } *common;
+/* How a list is. */
+typedef struct kind_t { bool overflows, leaves_out; } kind_t;
+static uint64_t callers_of(kind_t kind) { return kind.leaves_out ? PUBLISHERS + CALLERS : CALLERS; }
 static uint64_t lists; /* so far: each has random numbers of its own */
 
 static void pause_shortly(void) { nanosleep(&(struct timespec){.tv_nsec = 1000}, NULL); }
@@ -80,41 +84,50 @@ static uint64_t observe(void *object, uint32_t place, const uint64_t arguments[C
     return group_memory_apply(object, place, arguments);
   }
   uint64_t mark = group_memory_apply(object, place, arguments);
-  domain_reply_t reply = make_ordinary(memory, arguments[0], arguments + 1);
-  compare(arguments[0], &memory->group->replies[place], &reply);
-  compare_handle(memory, domain_traits(arguments[0])->ends, arguments + 1);
-  if (reply.code == IOX2PS_OK) compare_handle(memory, domain_traits(arguments[0])->makes, reply.handle);
+  uint64_t operation = (uint32_t)arguments[0];
+  domain_reply_t reply = make_ordinary(memory, operation, arguments + 1);
+  compare(operation, &memory->group->replies[place], &reply);
+  compare_handle(memory, domain_traits(operation)->ends, arguments + 1);
+  if (reply.code == IOX2PS_OK) compare_handle(memory, domain_traits(operation)->makes, reply.handle);
   seen.calls++, seen.by_others += place != seen.last_place, seen.last_place = place;
-  seen.blocked += reply.code == IOX2PS_BLOCKED, seen.samples += arguments[0] == SUBSCRIBER_RECEIVE && reply.code == IOX2PS_OK;
+  seen.blocked += reply.code == IOX2PS_BLOCKED, seen.samples += operation == SUBSCRIBER_RECEIVE && reply.code == IOX2PS_OK;
   return mark;
 }
 
-static iox2ps_config_t settings(bool overflows) {
+static iox2ps_config_t settings(kind_t kind) {
+  bool overflows = kind.overflows;
   iox2ps_config_t config;
   iox2ps_config_defaults(&config, 7, MESSAGE_WORDS * sizeof(uint64_t), _Alignof(uint64_t));
   config.max_publishers = 5, config.max_subscribers = 6, config.history_size = overflows ? 2 : 0, config.enable_safe_overflow = overflows;
   config.subscriber_expired_connection_buffer = 3;
+  if (kind.leaves_out) config.backpressure_strategy = IOX2PS_DISCARD_DATA, config.max_publishers = PUBLISHERS * MOST, config.max_subscribers = (PUBLISHERS + CALLERS) * MOST;
   return config;
 }
 
 /* Comes, calls and goes: whoever comes again takes a copy. */
-static void run_caller(const char *name, const iox2ps_config_t *config, uint64_t which, uint64_t part) {
+static void run_caller(const char *name, const iox2ps_config_t *config, kind_t kind, uint64_t which, uint64_t part) {
   static random_caller_t it;
-  it = (random_caller_t){.domain = IOX2PS_DOMAIN_INIT, .state = which + 17 * part + 99 * lists, .number = which << 48 | part << 32};
-  CHECK(iox2ps_domain_open(&it.domain, name, "words", config, NULL) == IOX2PS_OK);
+  iox2ps_processes_options_t options;
+  caller_role_t role = !kind.leaves_out ? CALLS_ALL : which <= PUBLISHERS ? PUBLISHES : SUBSCRIBES;
+  iox2ps_processes_options_of(config, &options);
+  options.leaves_out = kind.leaves_out, options.calls = LENGTH, options.payload_room = options.book_room = 1 << 20;
+  it = (random_caller_t){.domain = IOX2PS_DOMAIN_INIT, .state = which + 17 * part + 99 * lists, .role = role};
+  CHECK(iox2ps_domain_open(&it.domain, name, "words", config, &options) == IOX2PS_OK);
   const domain_memory_t *memory = shared_domain_of(&it.domain)->memory;
+  const replica_t *replica = &shared_domain_of(&it.domain)->group->member.replica;
   common->ready++;
-  while (common->ready < CALLERS) pause_shortly();
+  while (common->ready < callers_of(kind)) pause_shortly();
   for (int step = 0; step < CALLS; step++) {
     call_by_random(&it);
     if (random_below(&it, 2) == 0) pause_shortly(); /* so that calls of others come in between, also on one processor */
     while (memory->group->replica.progress.made > common->observed + MOST_AHEAD) pause_shortly();
   }
+  if (role == SUBSCRIBES) (void)(common->left_out += replica->left_out), (void)(common->made += replica->made);
   CHECK(iox2ps_domain_destroy(&it.domain) == IOX2PS_OK);
 }
 
-static void follow_callers(shared_domain_t *observer) {
-  for (int running = CALLERS; running > 0;) {
+static void follow_callers(shared_domain_t *observer, uint64_t callers) {
+  for (uint64_t running = callers; running > 0;) {
     int status;
     CHECK(shared_domain_idle(observer) == IOX2PS_OK);
     common->observed = observer->memory->group->replica.progress.made;
@@ -138,37 +151,39 @@ static void compare_ends(shared_domain_t *observer, iox2ps_domain_t *domain) {
   CHECK(memory->group->replica.progress.made == seen.calls + seen.ends);
 }
 
-static void random_calls(const char *name, bool overflows) {
-  iox2ps_config_t config = settings(overflows);
+static void random_calls(const char *name, kind_t kind) {
+  iox2ps_config_t config = settings(kind);
   iox2ps_processes_options_t options;
   iox2ps_domain_t domain = IOX2PS_DOMAIN_INIT;
   memset(&seen, 0, sizeof seen);
-  common->observed = common->ready = 0;
+  common->observed = common->ready = common->left_out = common->made = 0;
   iox2ps_processes_options_of(&config, &options);
   options.calls = LENGTH, options.payload_room = options.book_room = 1 << 20; /* publishers of theirs grow */
   CHECK(iox2ps_domain_create(&ordinary, &config) == IOX2PS_OK && iox2ps_domain_create_named(&domain, name, "words", &config, &options) == IOX2PS_OK);
   shared_domain_t *observer = shared_domain_of(&domain);
   observer->group->member.replica.apply = observe;
-  for (uint64_t which = 1; which <= CALLERS; which++) {
+  for (uint64_t which = 1; which <= callers_of(kind); which++) {
     pid_t child = fork_child();
     CHECK(child >= 0);
     if (child > 0) continue;
-    for (uint64_t part = 0; part < PARTS; part++) run_caller(name, &config, which, part);
+    for (uint64_t part = 0; part < PARTS; part++) run_caller(name, &config, kind, which, part);
     _exit(0);
   }
-  follow_callers(observer);
+  follow_callers(observer, callers_of(kind));
   compare_ends(observer, &domain);
-  CHECK((overflows ? seen.blocked == 0 : seen.blocked > 10) && seen.samples > 100);
-  printf("%llu calls of %d processes, %llu of them by another than the one before, %llu blocked, %llu received\n", (unsigned long long)seen.calls, CALLERS,
-         (unsigned long long)seen.by_others, (unsigned long long)seen.blocked, (unsigned long long)seen.samples);
+  CHECK((kind.overflows ? seen.blocked == 0 : seen.blocked > 10 || kind.leaves_out) && seen.samples > 100);
+  printf("%llu calls of %llu processes, %llu of them by another than the one before, %llu blocked, %llu received; four made %llu and left out %llu\n",
+         (unsigned long long)seen.calls, (unsigned long long)callers_of(kind), (unsigned long long)seen.by_others, (unsigned long long)seen.blocked,
+         (unsigned long long)seen.samples, (unsigned long long)common->made, (unsigned long long)common->left_out);
+  CHECK(kind.leaves_out == (common->left_out > 1000));
   CHECK(iox2ps_domain_destroy(&domain) == IOX2PS_OK && iox2ps_domain_destroy(&ordinary) == IOX2PS_OK);
 }
 
 /* Where the machine gave its processes long turns, so that fewer than a fifth of neighbours are by two of them, another list is made. */
-static void mixed_calls(const char *name, bool overflows) {
+static void mixed_calls(const char *name, kind_t kind) {
   for (int tries = 0; tries < MOST_TRIES; tries++) {
     lists++;
-    random_calls(name, overflows);
+    random_calls(name, kind);
     if (seen.by_others >= seen.calls / 5) return;
   }
   CHECK(seen.by_others >= seen.calls / 5);
@@ -181,8 +196,7 @@ int main(int count, char **words) {
   common = mmap(NULL, sizeof *common, PROT_READ | PROT_WRITE, MAP_SHARED | MAP_ANONYMOUS, -1, 0);
   CHECK(common != MAP_FAILED);
   for (int round = 0; round < rounds; round++) {
-    mixed_calls(name, true);
-    mixed_calls(name, false);
+    for (int which = 0; which < 4; which++) mixed_calls(name, (kind_t){which % 2 == 0, which >= 2});
   }
   return 0;
 }

@@ -31,7 +31,7 @@ static void pause_shortly(void) { nanosleep(&(struct timespec){.tv_nsec = 1000},
 
 static void run_caller(uint64_t seed) {
   static random_caller_t it;
-  it = (random_caller_t){.domain = IOX2PS_DOMAIN_INIT, .state = seed, .number = seed << 32};
+  it = (random_caller_t){.domain = IOX2PS_DOMAIN_INIT, .state = seed};
   CHECK(iox2ps_domain_open(&it.domain, name, "words", &config, NULL) == IOX2PS_OK);
   for (common->ready++; common->ready < CALLERS;) pause_shortly();
   for (int i = 0; i < CALLS; i++) {

@@ -61,7 +61,7 @@ static void bad_options(void) {
   iox2ps_processes_options_t options, bad;
   iox2ps_processes_options_of(&good, &options);
   bad = options, bad.struct_size = 0, CHECK(iox2ps_domain_open_or_create(&domain, name, "reading", &good, &bad) == IOX2PS_OPEN_ERROR_INVALID_ARGUMENT);
-  bad = options, bad.reserved_ = 1, CHECK(iox2ps_domain_open_or_create(&domain, name, "reading", &good, &bad) == IOX2PS_OPEN_ERROR_INVALID_ARGUMENT);
+  bad = options, bad.leaves_out = 2, CHECK(iox2ps_domain_open_or_create(&domain, name, "reading", &good, &bad) == IOX2PS_OPEN_ERROR_INVALID_ARGUMENT);
   bad = options, bad.permissions = 010000, CHECK(iox2ps_domain_open_or_create(&domain, name, "reading", &good, &bad) == IOX2PS_OPEN_ERROR_INVALID_ARGUMENT);
   bad = options, bad.calls = 100, CHECK(iox2ps_domain_open_or_create(&domain, name, "reading", &good, &bad) == IOX2PS_OPEN_ERROR_INVALID_ARGUMENT);
   bad = options, bad.max_processes = 65, CHECK(iox2ps_domain_open_or_create(&domain, name, "reading", &good, &bad) == IOX2PS_OPEN_ERROR_INVALID_ARGUMENT);

@@ -48,7 +48,7 @@ pub struct Options {
     pub permissions: u32,
     pub reap_every_ms: u32,
     pub spins: u32,
-    pub reserved: u32,
+    pub leaves_out: u32,
 }
 
 #[repr(C)]

@@ -32,7 +32,7 @@ lies_so! {
     permissions 32
     reap_every_ms 36
     spins 40
-    reserved 44
+    leaves_out 44
 }
 lies_so! {
     domain_info, DomainInfo, 416, 8,
