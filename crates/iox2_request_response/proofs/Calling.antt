@@ -18,7 +18,7 @@ use Rattle.iox2_request_response.specs.declared.server.Server.{Server}
 use Rattle.iox2_request_response.specs.declared.service.RequestResponse.{RequestResponse}
 use Rattle.iox2_request_response.proofs.ClientSteps.{client-stays, idle_then, ports_then}
 use Rattle.iox2_request_response.proofs.Closing.{idle-new}
-use Rattle.iox2_request_response.proofs.Frames.{publisher-live, service-twice, subscriber-live}
+use Rattle.iox2_request_response.proofs.Frames.{as-word, parts, publisher-live, service-twice, subscriber-live}
 use Rattle.std.proofs.Common.{◌∙◌, ℕ, List, ap, arith, le_trans, subst, sym}
 use Rattle.iox2_machine.specs.declared.service_config.ServiceConfig.{ServiceConfig}
 
@@ -29,13 +29,13 @@ module _ {Q P F G : Type 0} where
 
   pub service_stays : (old new : RequestResponse Q P F G) → StaysService old new → IsService old → IsService new
   service_stays old new stays is = record {
-    requests = stays.requests.single_valued is.requests;
-    responses = stays.responses.single_valued is.responses;
+    requests = (parts stays).requests.single_valued is.requests;
+    responses = (parts stays).responses.single_valued is.responses;
     requests_discard =
-        ap (λ (c : ServiceConfig). c.backpressure_strategy) stays.requests.settings ∙ is.requests_discard;
+        ap (λ (c : ServiceConfig). c.backpressure_strategy) (parts stays).requests.settings ∙ is.requests_discard;
     responses_discard =
-        ap (λ (c : ServiceConfig). c.backpressure_strategy) stays.responses.settings ∙ is.responses_discard;
-    numbered = let some = is.numbered in let rises = stays.numbers in omega (arith, some, rises);
+        ap (λ (c : ServiceConfig). c.backpressure_strategy) (parts stays).responses.settings ∙ is.responses_discard;
+    numbered = let some = is.numbered in let rises = (parts stays).numbers in omega (arith, some, rises);
   }
 
   pub client_stays : (old new : RequestResponse Q P F G) → StaysService old new → (client : Client)
@@ -45,25 +45,26 @@ module _ {Q P F G : Type 0} where
   pub server_stays : (old new : RequestResponse Q P F G) → StaysService old new → (server : Server)
       → IsLiveServer old server → IsLiveServer new server
   server_stays old new stays server live = record {
-    requests = subscriber-live old.requests new.requests No_item server.requests stays.requests tt live.requests;
-    responses = publisher-live old.responses new.responses server.responses stays.responses live.responses;
+    requests =
+        subscriber-live old.requests new.requests No_item server.requests (parts stays).requests tt live.requests;
+    responses = publisher-live old.responses new.responses server.responses (parts stays).responses live.responses;
   }
 
   pub pending_stays : (old new : RequestResponse Q P F G) → StaysService old new → (pending : PendingResponse)
       → IsLivePending old pending → IsLivePending new pending
   pending_stays old new stays pending live =
       record {
-        slot = subscriber-live old.responses new.responses No_item pending.slot stays.responses tt live.slot;
+        slot = subscriber-live old.responses new.responses No_item pending.slot (parts stays).responses tt live.slot;
         number = live.number;
       }
 
   pub active_stays : (old new : RequestResponse Q P F G) → StaysService old new → (active : ActiveRequest)
       → IsLiveActive old active → IsLiveActive new active
-  active_stays old new stays active live = stays.requests.live_samples active.sample live tt
+  active_stays old new stays active live = (parts stays).requests.live_samples active.sample live tt
 
   pub response_stays : (old new : RequestResponse Q P F G) → StaysService old new → (response : Response)
       → IsLiveResponse old response → IsLiveResponse new response
-  response_stays old new stays response live = stays.responses.live_samples response.sample live tt
+  response_stays old new stays response live = (parts stays).responses.live_samples response.sample live tt
 
 -- ---- what is spent
 
@@ -73,27 +74,27 @@ module _ {Q P F G : Type 0} where
       → (server : Server) → IsLiveServer old server → IsLiveServer new server
   server_but_client old new client stays server live = record {
     requests = subscriber-live old.requests new.requests
-        (publisher_port client.requests) server.requests stays.requests tt live.requests;
+        (publisher_port client.requests) server.requests (parts stays).requests tt live.requests;
     responses = record {
       ready = record {
-        there = stays.responses.publishers (publisher_key server.responses) live.responses.ready.there
+        there = (parts stays).responses.publishers (publisher_key server.responses) live.responses.ready.there
             (subscribers_no_publisher (publisher_id server.responses) (idle_ids (client.slots).items));
-        placed = stays.responses.placed_publishers server.responses live.responses.ready.placed;
-        unblocked = stays.responses.unblocked (publisher_key server.responses) live.responses.ready.unblocked
+        placed = (parts stays).responses.placed_publishers server.responses live.responses.ready.placed;
+        unblocked = (parts stays).responses.unblocked (publisher_key server.responses) live.responses.ready.unblocked
             (subscribers_no_blocked (publisher_id server.responses) (idle_ids (client.slots).items));
       };
-      never_waits = stays.responses.never_wait (publisher_key server.responses) live.responses.never_waits;
+      never_waits = (parts stays).responses.never_wait (publisher_key server.responses) live.responses.never_waits;
     };
   }
 
   pub active_but_client : (old new : RequestResponse Q P F G) (client : Client) → StaysButClient old new client
       → (active : ActiveRequest) → IsLiveActive old active → IsLiveActive new active
-  active_but_client old new client stays active live = stays.requests.live_samples active.sample live tt
+  active_but_client old new client stays active live = (parts stays).requests.live_samples active.sample live tt
 
   pub response_but_client : (old new : RequestResponse Q P F G) (client : Client) → StaysButClient old new client
       → (response : Response) → IsLiveResponse old response → IsLiveResponse new response
   response_but_client old new client stays response live =
-      stays.responses.live_samples response.sample live
+      (parts stays).responses.live_samples response.sample live
       (subscribers_no_sample (receiver_of response.sample) (sample_number response.sample)
       (idle_ids (client.slots).items))
 
@@ -105,15 +106,15 @@ module _ {Q P F G : Type 0} where
   client-apart asked answered old new stays publisher unblocked apart client live = record {
     requests = record {
       ready = record {
-        there = stays.requests.publishers (publisher_key client.requests) live.requests.ready.there
+        there = (parts stays).requests.publishers (publisher_key client.requests) live.requests.ready.there
             (publisher (publisher_id client.requests));
-        placed = stays.requests.placed_publishers client.requests live.requests.ready.placed;
-        unblocked = stays.requests.unblocked (publisher_key client.requests) live.requests.ready.unblocked
+        placed = (parts stays).requests.placed_publishers client.requests live.requests.ready.placed;
+        unblocked = (parts stays).requests.unblocked (publisher_key client.requests) live.requests.ready.unblocked
             (unblocked (publisher_id client.requests));
       };
-      never_waits = stays.requests.never_wait (publisher_key client.requests) live.requests.never_waits;
+      never_waits = (parts stays).requests.never_wait (publisher_key client.requests) live.requests.never_waits;
     };
-    slots = λ at it idle. subscriber-live old.responses new.responses answered it stays.responses
+    slots = λ at it idle. subscriber-live old.responses new.responses answered it (parts stays).responses
         (apart (subscriber_id it)) (live.slots at it idle);
     distinct = live.distinct;
   }
@@ -136,40 +137,44 @@ module _ {Q P F G : Type 0} where
   -- what was new is spent again: all that was there before stays
   pub client_ends : (start old new : RequestResponse Q P F G) (client : Client) → StaysService start old
       → IsNewClient start client → StaysButClient old new client → StaysService start new
-  client_ends start old new client before is stays = record {
-    requests = stays-on start.requests old.requests before.requests
-        (publisher_port client.requests) new.requests is.requests stays.requests;
-    responses = stays-on start.responses old.responses before.responses (idle_ports (client.slots).items) new.responses
-        (idle-new start.responses (client.slots).items is.slots) stays.responses;
-    numbers = le_trans before.numbers stays.numbers;
-    limit = stays.limit ∙ before.limit;
-  }
+  client_ends start old new client before is stays = as-word (record {
+    requests = stays-on start.requests old.requests (parts before).requests
+        (publisher_port client.requests) new.requests is.requests (parts stays).requests;
+    responses =
+        stays-on start.responses old.responses (parts before).responses (idle_ports (client.slots).items) new.responses
+        (idle-new start.responses (client.slots).items is.slots) (parts stays).responses;
+    numbers = le_trans (parts before).numbers (parts stays).numbers;
+    limit = (parts stays).limit ∙ (parts before).limit;
+  })
 
   pub server_ends : (start old new : RequestResponse Q P F G) (server : Server) → StaysService start old
       → IsNewServer start server → StaysButServer old new server → StaysService start new
-  server_ends start old new server before is stays = record {
-    requests = stays-on start.requests old.requests before.requests
-        (subscriber_port server.requests) new.requests is.requests stays.requests;
-    responses = stays-on start.responses old.responses before.responses
-        (publisher_port server.responses) new.responses is.responses stays.responses;
-    numbers = le_trans before.numbers stays.numbers;
-    limit = stays.limit ∙ before.limit;
-  }
+  server_ends start old new server before is stays = as-word (record {
+    requests = stays-on start.requests old.requests (parts before).requests
+        (subscriber_port server.requests) new.requests is.requests (parts stays).requests;
+    responses = stays-on start.responses old.responses (parts before).responses
+        (publisher_port server.responses) new.responses is.responses (parts stays).responses;
+    numbers = le_trans (parts before).numbers (parts stays).numbers;
+    limit = (parts stays).limit ∙ (parts before).limit;
+  })
 
   -- what is new later was new before
   pub client_is_new : (start old : RequestResponse Q P F G) (client : Client) → StaysService start old
       → IsNewClient old client → IsNewClient start client
   client_is_new start old client before is = record {
-    requests = new-since start.requests old.requests before.requests (publisher_port client.requests) is.requests;
-    slots = new-since start.responses old.responses before.responses
+    requests =
+        new-since start.requests old.requests (parts before).requests (publisher_port client.requests) is.requests;
+    slots = new-since start.responses old.responses (parts before).responses
         (subscriber_ports (slot_ids (client.slots).items)) is.slots;
   }
 
   pub server_is_new : (start old : RequestResponse Q P F G) (server : Server) → StaysService start old
       → IsNewServer old server → IsNewServer start server
   server_is_new start old server before is = record {
-    requests = new-since start.requests old.requests before.requests (subscriber_port server.requests) is.requests;
-    responses = new-since start.responses old.responses before.responses (publisher_port server.responses) is.responses;
+    requests =
+        new-since start.requests old.requests (parts before).requests (subscriber_port server.requests) is.requests;
+    responses =
+        new-since start.responses old.responses (parts before).responses (publisher_port server.responses) is.responses;
   }
 
   -- a client with the ports of a new one is new

@@ -12,7 +12,7 @@ use Rattle.iox2_request_response.specs.declared.pending_response.PendingResponse
 use Rattle.iox2_request_response.specs.declared.service.RequestResponse.{RequestResponse}
 use Rattle.iox2_request_response.specs.declared.slots.Slot.{Slot}
 use Rattle.iox2_request_response.specs.declared.slots.Slot.TheVariants.{Idle, InUse}
-use Rattle.iox2_request_response.proofs.Frames.{publisher-live, subscriber-live}
+use Rattle.iox2_request_response.proofs.Frames.{parts, publisher-live, subscriber-live}
 use Rattle.iox2_request_response.proofs.SlotSteps.{set-ids, set-idle, set-there, set-used}
 
 -- who is idle after one was taken was idle before
@@ -90,10 +90,11 @@ module _ {Q P F G : Type 0} (old new : RequestResponse Q P F G) (stays : StaysSe
       → ((at : ℕ) (subscriber : Subscriber) → HasIdle (client.slots).items at subscriber
       → IsLiveSubscriber old.responses subscriber) → IsLiveClient new client
   client-live before client ports was live = record {
-    requests = publisher-live old.requests new.requests client.requests stays.requests
+    requests = publisher-live old.requests new.requests client.requests (parts stays).requests
         (subst (IsLivePublisher old.requests) (sym ports.requests) was.requests);
     slots = λ at subscriber idle.
-        subscriber-live old.responses new.responses No_item subscriber stays.responses tt (live at subscriber idle);
+        subscriber-live old.responses new.responses No_item subscriber (parts stays).responses tt
+        (live at subscriber idle);
     distinct = subst AreDistinctIdle (sym ports.slots) was.distinct;
   }
 

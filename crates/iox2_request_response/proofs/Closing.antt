@@ -21,7 +21,7 @@ use Rattle.iox2_request_response.specs.declared.client.Client.{Client}
 use Rattle.iox2_request_response.specs.declared.service.RequestResponse.{RequestResponse}
 use Rattle.iox2_request_response.specs.declared.slots.Slot.{Slot}
 use Rattle.iox2_request_response.specs.declared.slots.Slot.TheVariants.{Idle, InUse}
-use Rattle.iox2_request_response.proofs.Frames.{publisher-live, subscriber-live}
+use Rattle.iox2_request_response.proofs.Frames.{as-word, parts, publisher-live, subscriber-live}
 use Rattle.iox2_request_response.proofs.SlotSteps.{as-many, id-there, ids-append, middle-apart, middle-idle}
 use Rattle.iox2_request_response.proofs.SlotSteps.{other-ports, push-distinct, push-idle}
 
@@ -230,15 +230,16 @@ module _ {Q P F G : Type 0} (requests : Publisher) (start : RequestResponse Q P 
     -- where they are closed again, all that was there before stays, but the publisher
     pub closed-again : (closed : RequestResponse Q P F G) → StaysBoth (publisher_port client.requests)
         (idle_ports (client.slots).items) now closed → StaysBoth (publisher_port requests) No_item start closed
-    closed-again closed stays = record {
+    closed-again closed stays = as-word (record {
       requests = subst (λ (p : Publisher). StaysBut (publisher_port p) start.requests closed.requests) filling.publisher
           (subst
-          (λ d. StaysBut (publisher_port client.requests) d closed.requests) filling.requests_stay stays.requests);
+          (λ d. StaysBut (publisher_port client.requests) d closed.requests) filling.requests_stay
+          (parts stays).requests);
       responses = stays-on start.responses now.responses filling.stays (idle_ports (client.slots).items)
-          closed.responses (idle-new start.responses (client.slots).items filling.are_new) stays.responses;
-      numbers = subst (λ (n : ℕ). n ≤ closed.next_request) filling.numbers stays.numbers;
-      limit = stays.limit ∙ filling.limit;
-    }
+          closed.responses (idle-new start.responses (client.slots).items filling.are_new) (parts stays).responses;
+      numbers = subst (λ (n : ℕ). n ≤ closed.next_request) filling.numbers (parts stays).numbers;
+      limit = (parts stays).limit ∙ filling.limit;
+    })
 
     -- and no subscriber is there that wasn't
     pub none-left : (closed : RequestResponse Q P F G) → HasNoNewSubscriber now.responses closed.responses

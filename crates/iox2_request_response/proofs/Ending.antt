@@ -18,7 +18,7 @@ use Rattle.iox2_request_response.specs.declared.server.Server.{Server}
 use Rattle.iox2_request_response.specs.declared.service.RequestResponse.{RequestResponse}
 use Rattle.iox2_request_response.proofs.Calling.{client_but_active, client_but_response, client_but_server}
 use Rattle.iox2_request_response.proofs.ClientSteps.{client-taken}
-use Rattle.iox2_request_response.proofs.Frames.{subscriber-live}
+use Rattle.iox2_request_response.proofs.Frames.{as-word, parts, subscriber-live}
 use Rattle.iox2_request_response.proofs.SlotSteps.{other-ports, pending-apart}
 use Rattle.std.proofs.Common.{◌∙◌, ℕ, ap, arith, le_trans, sym}
 use Rattle.iox2_machine.specs.declared.service_config.ServiceConfig.{ServiceConfig}
@@ -32,13 +32,13 @@ module _ {Q P F G : Type 0} where
   pub service_but : (asked answered : Item) (old new : RequestResponse Q P F G) → StaysBoth asked answered old new
       → IsService old → IsService new
   service_but asked answered old new stays is = record {
-    requests = stays.requests.single_valued is.requests;
-    responses = stays.responses.single_valued is.responses;
+    requests = (parts stays).requests.single_valued is.requests;
+    responses = (parts stays).responses.single_valued is.responses;
     requests_discard =
-        ap (λ (c : ServiceConfig). c.backpressure_strategy) stays.requests.settings ∙ is.requests_discard;
+        ap (λ (c : ServiceConfig). c.backpressure_strategy) (parts stays).requests.settings ∙ is.requests_discard;
     responses_discard =
-        ap (λ (c : ServiceConfig). c.backpressure_strategy) stays.responses.settings ∙ is.responses_discard;
-    numbered = let some = is.numbered in let rises = stays.numbers in omega (arith, some, rises);
+        ap (λ (c : ServiceConfig). c.backpressure_strategy) (parts stays).responses.settings ∙ is.responses_discard;
+    numbered = let some = is.numbered in let rises = (parts stays).numbers in omega (arith, some, rises);
   }
 
   -- ---- requests and responses that were received since
@@ -46,32 +46,34 @@ module _ {Q P F G : Type 0} where
   pub active_is_new : (start old : RequestResponse Q P F G) (active : ActiveRequest) → StaysService start old
       → IsNewActive old active → IsNewActive start active
   active_is_new start old active before is =
-      new-since start.requests old.requests before.requests (received_sample active.sample) is
+      new-since start.requests old.requests (parts before).requests (received_sample active.sample) is
 
   pub response_is_new : (start old : RequestResponse Q P F G) (response : Response) → StaysService start old
       → IsNewResponse old response → IsNewResponse start response
   response_is_new start old response before is =
-      new-since start.responses old.responses before.responses (received_sample response.sample) is
+      new-since start.responses old.responses (parts before).responses (received_sample response.sample) is
 
   pub active_ends : (start old new : RequestResponse Q P F G) (active : ActiveRequest) → StaysService start old
       → IsNewActive start active → StaysButActive old new active → StaysService start new
-  active_ends start old new active before is stays = record {
-    requests = stays-on start.requests old.requests before.requests
-        (received_sample active.sample) new.requests is stays.requests;
-    responses = stays-twice No_item start.responses old.responses new.responses before.responses stays.responses;
-    numbers = le_trans before.numbers stays.numbers;
-    limit = stays.limit ∙ before.limit;
-  }
+  active_ends start old new active before is stays = as-word (record {
+    requests = stays-on start.requests old.requests (parts before).requests
+        (received_sample active.sample) new.requests is (parts stays).requests;
+    responses = stays-twice No_item start.responses old.responses new.responses (parts before).responses
+        (parts stays).responses;
+    numbers = le_trans (parts before).numbers (parts stays).numbers;
+    limit = (parts stays).limit ∙ (parts before).limit;
+  })
 
   pub response_ends : (start old new : RequestResponse Q P F G) (response : Response) → StaysService start old
       → IsNewResponse start response → StaysButResponse old new response → StaysService start new
-  response_ends start old new response before is stays = record {
-    requests = stays-twice No_item start.requests old.requests new.requests before.requests stays.requests;
-    responses = stays-on start.responses old.responses before.responses
-        (received_sample response.sample) new.responses is stays.responses;
-    numbers = le_trans before.numbers stays.numbers;
-    limit = stays.limit ∙ before.limit;
-  }
+  response_ends start old new response before is stays = as-word (record {
+    requests =
+        stays-twice No_item start.requests old.requests new.requests (parts before).requests (parts stays).requests;
+    responses = stays-on start.responses old.responses (parts before).responses
+        (received_sample response.sample) new.responses is (parts stays).responses;
+    numbers = le_trans (parts before).numbers (parts stays).numbers;
+    limit = (parts stays).limit ∙ (parts before).limit;
+  })
 
   -- ---- what stays live where something else is spent
 
@@ -79,7 +81,7 @@ module _ {Q P F G : Type 0} where
       → (pending : PendingResponse) → IsLivePending old pending → IsLivePending new pending
   pending_but_active old new active stays pending live =
       record {
-        slot = subscriber-live old.responses new.responses No_item pending.slot stays.responses tt live.slot;
+        slot = subscriber-live old.responses new.responses No_item pending.slot (parts stays).responses tt live.slot;
         number = live.number;
       }
 
@@ -89,7 +91,7 @@ module _ {Q P F G : Type 0} where
   pending_but_response old new response stays pending live =
       record {
         slot = subscriber-live old.responses new.responses
-            (received_sample response.sample) pending.slot stays.responses tt live.slot;
+            (received_sample response.sample) pending.slot (parts stays).responses tt live.slot;
         number = live.number;
       }
 
@@ -98,7 +100,7 @@ module _ {Q P F G : Type 0} where
   pending_but_server old new server stays pending live =
       record {
         slot = subscriber-live old.responses new.responses
-            (publisher_port server.responses) pending.slot stays.responses tt live.slot;
+            (publisher_port server.responses) pending.slot (parts stays).responses tt live.slot;
         number = live.number;
       }
 
@@ -106,7 +108,8 @@ module _ {Q P F G : Type 0} where
       → IsLiveClient old client → (pending : PendingResponse) → IsPendingOf client pending
       → IsLivePending old pending → IsLivePending new pending
   pending_but_client old new client stays whose pending its live = record {
-    slot = subscriber-live old.responses new.responses (idle_ports (client.slots).items) pending.slot stays.responses
+    slot = subscriber-live old.responses new.responses (idle_ports (client.slots).items) pending.slot
+        (parts stays).responses
         (other-ports (client.slots).items (subscriber_id pending.slot)
         (pending-apart (client.slots).items whose.distinct pending.index (subscriber_id pending.slot) its)) live.slot;
     number = live.number;
@@ -114,28 +117,28 @@ module _ {Q P F G : Type 0} where
 
   pub active_but_server : (old new : RequestResponse Q P F G) (server : Server) → StaysButServer old new server
       → (active : ActiveRequest) → IsLiveActive old active → IsLiveActive new active
-  active_but_server old new server stays active live = stays.requests.live_samples active.sample live tt
+  active_but_server old new server stays active live = (parts stays).requests.live_samples active.sample live tt
 
   pub active_but_pending : (old new : RequestResponse Q P F G) (pending : PendingResponse)
       → StaysButPending old new pending → (active : ActiveRequest) → IsLiveActive old active → IsLiveActive new active
-  active_but_pending old new pending stays active live = stays.requests.live_samples active.sample live tt
+  active_but_pending old new pending stays active live = (parts stays).requests.live_samples active.sample live tt
 
   -- a server, where neither its subscriber nor its publisher is spent
   server-apart : (asked answered : Item) (old new : RequestResponse Q P F G) → StaysBoth asked answered old new
       → ((id : ℕ) → IsOtherSubscriber asked id) → ((id : ℕ) → IsOtherPublisher answered id)
       → ((id : ℕ) → IsOtherBlocked answered id) → (server : Server) → IsLiveServer old server → IsLiveServer new server
   server-apart asked answered old new stays subscriber publisher unblocked server live = record {
-    requests = subscriber-live old.requests new.requests asked server.requests stays.requests
+    requests = subscriber-live old.requests new.requests asked server.requests (parts stays).requests
         (subscriber (subscriber_id server.requests)) live.requests;
     responses = record {
       ready = record {
-        there = stays.responses.publishers (publisher_key server.responses) live.responses.ready.there
+        there = (parts stays).responses.publishers (publisher_key server.responses) live.responses.ready.there
             (publisher (publisher_id server.responses));
-        placed = stays.responses.placed_publishers server.responses live.responses.ready.placed;
-        unblocked = stays.responses.unblocked (publisher_key server.responses) live.responses.ready.unblocked
+        placed = (parts stays).responses.placed_publishers server.responses live.responses.ready.placed;
+        unblocked = (parts stays).responses.unblocked (publisher_key server.responses) live.responses.ready.unblocked
             (unblocked (publisher_id server.responses));
       };
-      never_waits = stays.responses.never_wait (publisher_key server.responses) live.responses.never_waits;
+      never_waits = (parts stays).responses.never_wait (publisher_key server.responses) live.responses.never_waits;
     };
   }
 

@@ -8,3 +8,4 @@ pub mod PortChanges
 pub mod PortSteps
 pub mod SentMessages
 pub mod SlotSteps
+pub mod UpdatesWork

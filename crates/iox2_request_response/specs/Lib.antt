@@ -1,3 +1,4 @@
+pub mod Granted
 pub mod Handles
 pub mod Ports
 pub mod Sent

@@ -24,11 +24,19 @@ module _ {Q P F G : Type 0} where
 
   -- All that was live in either domain is, and reads as it did, but these items: one of the requests, and one of the
   -- responses. Numbers of requests that were given stay given, and a client may have as many requests as before.
-  pub record StaysBoth (asked answered : Item) (old new : RequestResponse Q P F G) : Type 0 where
+  pub record ServiceParts (asked answered : Item) (old new : RequestResponse Q P F G) : Type 0 where
     pub requests : StaysBut asked old.requests new.requests
     pub responses : StaysBut answered old.responses new.responses
     pub numbers : old.next_request ≤ new.next_request
     pub limit : new.max_active_requests ≡ old.max_active_requests
+
+  -- The same as one word, into which a caller's proof doesn't look.
+  unfoldable pub HasStayed : (asked answered : Item) → (old new : RequestResponse Q P F G) → Type 0
+  HasStayed asked answered old new = ServiceParts asked answered old new
+
+  -- What a call leaves of a service, but these items.
+  pub record StaysBoth (asked answered : Item) (old new : RequestResponse Q P F G) : Type 0 where
+    pub stayed : HasStayed asked answered old new
 
   -- All that was live in either domain is, and reads as it did.
   abbrev pub StaysService : (old new : RequestResponse Q P F G) → Type 0

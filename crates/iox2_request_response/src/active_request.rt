@@ -1,10 +1,11 @@
 //! A request that a server has received.
-ghost use Rattle.std.specs.Prelude.{◌≡◌, false, true, Ok};
+ghost use Rattle.std.specs.Prelude.{◌≡◌, false, true, IsOk, Ok};
 ghost use Rattle.iox2_machine.specs.machine.ChannelCalls.{has_channel_state, has_disconnect_hint, sent_closed};
 ghost use Rattle.iox2_machine.specs.machine.State.{State, Messages};
 ghost use Rattle.iox2_domain.specs.Shows.{Shows};
 ghost use Rattle.iox2_pubsub.specs.Handles.{origin_of, publisher_id};
 ghost use Rattle.iox2_pubsub.specs.Live.{SampleReads};
+ghost use Rattle.iox2_request_response.specs.Granted.{MayRespond};
 ghost use Rattle.iox2_request_response.specs.Handles.{IsLiveActive, IsLiveServer, StaysButActive};
 ghost use Rattle.iox2_request_response.specs.Sent.{SendsOne};
 ghost use Rattle.iox2_request_response.specs.Service.{IsService, StaysService};
@@ -91,7 +92,7 @@ impl ActiveRequest {
     }
 
     /// Sends a response. Returns whether it was taken: it isn't if the client has let the request go, or if
-    /// the buffer is full and the service doesn't overflow.
+    /// the buffer is full and the service doesn't overflow. Fails if no number or no loan is left.
     pub fn send_copy<Q: Drop, P: Drop, F: BackpressureFn, G: DegradationFn>(
         &self,
         server: &Server,
@@ -103,6 +104,7 @@ impl ActiveRequest {
         ensures let_go { (m : Messages P Tag) (s : State P Tag) → Shows service.old.responses m s
             → has_channel_state s (publisher_id server.now.responses) 0 self.now.place self.now.number ≡ false
             → result ≡ Ok false }
+        ensures granted { MayRespond service.old server.now → IsOk result }
         ensures tagged { result ≡ Ok true → SendsOne (record { number = self.now.number }) value service.old.responses service.new.responses }
         ensures stays { StaysService service.old service.new }
     {

@@ -1,7 +1,8 @@
 //! A client.
 ghost use Rattle.std.specs.Prelude.{◌≡◌, ◌≤◌, ◌↔◌, [], Err, ◌+◌, IfErr, IfOk, length, slice_set, vec_capacity};
 ghost use Rattle.iox2_pubsub.specs.Handles.{publisher_id, subscriber_id};
-ghost use Rattle.iox2_pubsub.specs.Live.{IsLivePublisher, IsLiveSubscriber, IsNewIn, No_item, publisher_port, subscriber_ports};
+ghost use Rattle.iox2_pubsub.specs.Live.{IsLivePublisher, IsLiveSubscriber, IsNewIn, IsUpToDate, No_item, publisher_port, subscriber_ports};
+ghost use Rattle.iox2_request_response.specs.Granted.{AreIdleUpToDate, HasRequestLeft, IsOfConnection, MaySend};
 ghost use Rattle.iox2_request_response.specs.Handles.{AreSeparateRequests, HasIdleOf, HasNewNumber, HasPortsOf};
 ghost use Rattle.iox2_request_response.specs.Handles.{IsLiveClient, IsLivePending, IsNewClient, IsPendingOf};
 ghost use Rattle.iox2_request_response.specs.Handles.{IsRequestNumber, StaysButClient};
@@ -89,6 +90,8 @@ impl Client {
     /// Sends a request, and returns what waits for its responses.
     ///
     /// Fails with `ExceedsMaxActiveRequests` if as many requests of the client wait for responses as may.
+    /// Below that limit a request is refused if no number or no loan is left, or if memory for a connection
+    /// with a new server is refused.
     ///
     /// iceoryx2's `Client::send_copy` (`src/port/client.rs`).
     pub fn send_copy<Q: Drop, P: Drop, F: BackpressureFn, G: DegradationFn>(
@@ -99,6 +102,7 @@ impl Client {
         requires service { IsService service.old }
         requires client { IsLiveClient service.old self.old }
         ensures refused { (result ≡ Err RequestSendError.ExceedsMaxActiveRequests) ↔ AllInUse self.old.slots.items }
+        ensures granted { MaySend service.old self.old → IfErr result (λ error. IsOfConnection error × (AreIdleUpToDate service.old self.old → ⊥)) }
         ensures kept { IfErr result (λ _. self.new.slots.items ≡ self.old.slots.items) }
         ensures pending { IfOk result (IsLivePending service.new) }
         ensures its { IfOk result (IsPendingOf self.new) }
@@ -177,10 +181,13 @@ fn send_request<Q: Drop, P: Drop, F: BackpressureFn, G: DegradationFn>(
     requires requests { IsLivePublisher service.old.requests requests.now }
     requires slot { IsLiveSubscriber service.old.responses slot.now }
     ensures errors { result ≡ Err RequestSendError.ExceedsMaxActiveRequests → ⊥ }
+    ensures granted { HasRequestLeft service.old requests.now → IfErr result (λ error. IsOfConnection error × (IsUpToDate service.old.responses slot.now → ⊥)) }
     ensures number { IfOk result (λ sent. IsRequestNumber sent.0 × (service.old.next_request ≡ sent.0) × (service.new.next_request ≡ sent.0 + 1)) }
     ensures asked { IfOk result (λ sent. SendsOne (record { slot = subscriber_id slot.now; number = sent.0 }) value service.old.requests service.new.requests) }
     ensures stays { StaysService service.old service.new }
 {
+    // Their contract says that a domain always shows some state.
+    service.configs();
     let number = service.next_request;
     if number == u64::MAX {
         return Err(RequestSendError::NoNumberLeft);

@@ -1,5 +1,5 @@
 //! Requests and streams of responses, over two domains.
-#![tactic(auto)]
+#![tactic(auto, unfolding(crate::specs::Service::HasStayed))]
 
 mod active_request;
 mod client;

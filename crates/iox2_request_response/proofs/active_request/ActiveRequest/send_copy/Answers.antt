@@ -12,6 +12,9 @@ pub returns-in_err-loan-clause-let_go : goal.returns-in_err-loan-clause-let_go
 returns-in_err-loan-clause-let_go g c =
     λ m s shown gone. absurd (not-gone _ _ c.if-not-is_connected.false (c.is_connected.ensures m s shown) gone)
 
+pub returns-in_err-loan-clause-granted : goal.returns-in_err-loan-clause-granted
+returns-in_err-loan-clause-granted g c = λ may. absurd (c.in_err-loan.ensures.granted 0 0 may.loan may.message)
+
 pub returns-clause-let_go : goal.returns-clause-let_go
 returns-clause-let_go g c =
     λ m s shown gone. absurd (not-gone _ _ c.if-not-is_connected.false (c.is_connected.ensures m s shown) gone)

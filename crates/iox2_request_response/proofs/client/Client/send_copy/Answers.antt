@@ -5,7 +5,7 @@ use Rattle.iox2_request_response.specs.Slots.{slot_ids}
 use Rattle.iox2_request_response.specs.declared.slots.Slot.{Slot}
 use Rattle.iox2_request_response.specs.declared.slots.Slot.TheVariants.{Idle, InUse}
 use Rattle.iox2_request_response.proofs.ClientSteps.{client-as, client-live, client-taken, taken-idle, taken-ports}
-use Rattle.iox2_request_response.proofs.Frames.{subscriber-live}
+use Rattle.iox2_request_response.proofs.Frames.{parts, subscriber-live}
 use Rattle.iox2_request_response.proofs.SlotSteps.{back-same}
 use Rattle.iox2_request_response.proofs.client.Client.send_copy.Goals as goal
 
@@ -21,7 +21,7 @@ returns-in_default-clause-client g c =
 pub returns-in-Ok-clause-pending : goal.returns-in-Ok-clause-pending
 returns-in-Ok-clause-pending g c = record {
   slot = subscriber-live {T = g.row.P.Denot} {F = g.row.F.Denot} {G = g.row.G.Denot} c.args.service.now.responses
-      c.send_request.new.service.responses No_item c.in-Some.slot c.send_request.ensures.stays.responses tt
+      c.send_request.new.service.responses No_item c.in-Some.slot (parts c.send_request.ensures.stays).responses tt
       (c.requires.client.slots c.in-Some.index c.in-Some.slot c.in-Some.ensures.1);
   number = c.in-Ok.ensures.number.0;
 }

@@ -3,19 +3,20 @@ use Rattle.iox2_domain.specs.Boxes.{answers_of}
 use Rattle.iox2_pubsub.specs.Handles.{publisher_id}
 use Rattle.iox2_pubsub.specs.Live.{publisher_port}
 use Rattle.iox2_pubsub.proofs.StaysOn.{stays-on}
+use Rattle.iox2_request_response.proofs.Frames.{as-word, parts}
 use Rattle.iox2_request_response.proofs.PortChanges.{no-publisher-made, publisher-made}
 use Rattle.iox2_request_response.proofs.PortSteps.{BringsNoneBut, creates-publisher, on-error, refuses-publisher}
 use Rattle.iox2_request_response.proofs.service.RequestResponse.create_client.Goals as goal
 
 pub returns-in-Ok-clause-stays : goal.returns-in-Ok-clause-stays
-returns-in-Ok-clause-stays g c = record {
+returns-in-Ok-clause-stays g c = as-word (record {
   requests = stays-on c.args.self.now.requests c.create.new.domain c.create.ensures.leaves.stays
       (publisher_port c.in-Ok.requests) c.with_slots.new.self.requests c.in-Ok.ensures.made.is_new
-      c.with_slots.ensures.stays.requests;
-  responses = c.with_slots.ensures.stays.responses;
-  numbers = c.with_slots.ensures.stays.numbers;
-  limit = c.with_slots.ensures.stays.limit;
-}
+      (parts c.with_slots.ensures.stays).requests;
+  responses = (parts c.with_slots.ensures.stays).responses;
+  numbers = (parts c.with_slots.ensures.stays).numbers;
+  limit = (parts c.with_slots.ensures.stays).limit;
+})
 
 pub returns-in-Ok-clause-unmade : goal.returns-in-Ok-clause-unmade
 returns-in-Ok-clause-unmade g c = on-error c.with_slots.result (λ error left. (
