@@ -48,8 +48,9 @@ bool shared_group_has_handles(const shared_group_t *it) {
 iox2ps_status_t shared_domain_idle(shared_domain_t *it) {
   if (it->group->broken != IOX2PS_OK) return it->group->broken;
   it->group->member.replica.only_follows = false;
+  if (coarse_clock() >= it->group->reaps_at) return shared_domain_reap_in_time(it); /* which makes a piece of a copy, too */
   replica_idle(&it->group->member.replica);
-  return shared_domain_reap_in_time(it);
+  return IOX2PS_OK;
 }
 
 bool shared_group_protect(shared_group_t *it, bool may_write) {
